@@ -1,3 +1,4 @@
 pub mod Buffers
 pub mod Faults
 pub mod Harm
+pub mod Texts

@@ -2,6 +2,7 @@
 ghost use mathlib.Core.Path.{_≡_};
 ghost use Rattle.std.specs.declared.option.Option.the-variants.{Some, None};
 ghost use Rattle.words.specs.Faults.{number-of, fault, on-page};
+ghost use Rattle.words.specs.Texts.{kind-text, layer-text};
 use std::fmt;
 
 /// Why a call refuses. Each variant has one number, which the specification lists.
@@ -76,7 +77,9 @@ impl Kind {
     }
 
     /// The refusal in words.
-    pub fn text(self) -> &'static str {
+    pub fn text(self) -> &'static str
+        ensures { λ r. ⌜ now r ≡ kind-text self ⌝ }
+    {
         match self {
             Kind::RecipeEnds => "the recipe ends inside or before a field",
             Kind::UnknownChain => "unknown chain byte",
@@ -102,7 +105,9 @@ impl Kind {
 
 impl Layer {
     /// The layer's name.
-    pub fn text(self) -> &'static str {
+    pub fn text(self) -> &'static str
+        ensures { λ r. ⌜ now r ≡ layer-text self ⌝ }
+    {
         match self {
             Layer::Recipe => "recipe",
             Layer::Field => "field",
