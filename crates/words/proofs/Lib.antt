@@ -2,3 +2,4 @@ pub mod Passes
 pub mod Places
 pub mod Rises
 pub mod Scans
+pub mod Table
