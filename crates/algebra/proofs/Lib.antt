@@ -1,2 +1,4 @@
 pub mod Field
+pub mod Poly
 pub mod Ring
+pub mod Sums
