@@ -1,8 +1,10 @@
 -- What the laws of a ring and of a field give. Assumes nothing.
 use mathlib.Core.Path.{_≡_, refl, sym, ap, _∙_}
+use mathlib.Core.Bool.{true, false}
 use mathlib.Core.Logic.{_≢_, _⊎_, inl, inr}
 use mathlib.Core.HLevel.{hedberg}
-use Rattle.algebra.specs.Field.{Ring, Field}
+use Rattle.std.proofs.shelf.Tests.{true≢false}
+use Rattle.algebra.specs.Field.{Ring, Field, same}
 
 module _ (R : Ring) where
   open Ring R using (carrier, zero, one, add, mul)
@@ -75,3 +77,24 @@ module _ (F : Field) where
 
   pub inv-ne-zero : (x : carrier) → x ≢ zero → inv x ≢ zero
   inv-ne-zero x h e = F .zero-one (sym (mul-zero (F .ring) x) ∙ ap (mul x) (sym e) ∙ F .mul-inv x h)
+
+  pub same-true : (x y : carrier) → same F x y ≡ true → x ≡ y
+  same-true x y = from (F .same? x y)
+    where
+      from : (d : Dec (x ≡ y)) → elim d [ yes h ↦ true | no h ↦ false ] ≡ true → x ≡ y
+      from (yes h) e = h
+      from (no h) e = absurd (true≢false (sym e))
+
+  pub eq-same : (x y : carrier) → x ≡ y → same F x y ≡ true
+  eq-same x y e = from (F .same? x y)
+    where
+      from : (d : Dec (x ≡ y)) → elim d [ yes h ↦ true | no h ↦ false ] ≡ true
+      from (yes h) = refl
+      from (no h) = absurd (h e)
+
+  pub ne-same : (x y : carrier) → x ≢ y → same F x y ≡ false
+  ne-same x y n = from (F .same? x y)
+    where
+      from : (d : Dec (x ≡ y)) → elim d [ yes h ↦ true | no h ↦ false ] ≡ false
+      from (yes h) = absurd (n h)
+      from (no h) = refl

@@ -1,4 +1,6 @@
 pub mod Field
+pub mod Places
 pub mod Poly
 pub mod Ring
+pub mod Roots
 pub mod Sums

@@ -1,5 +1,6 @@
 -- Commutative rings and fields of characteristic two, in which each element is its own opposite. Assumes nothing.
 use mathlib.Core.Path.{_≡_}
+use mathlib.Core.Bool.{Bool, true, false}
 use mathlib.Core.Logic.{_≢_}
 
 pub record Ring : Type 1 where
@@ -24,3 +25,6 @@ pub record Field : Type 1 where
   pub mul-inv : (x : ring .carrier) → x ≢ ring .zero → ring .mul x (inv x) ≡ ring .one
   pub zero-one : ring .zero ≢ ring .one
   pub same? : (x y : ring .carrier) → Dec (x ≡ y)
+
+abbrev pub same : (F : Field) → F .ring .carrier → F .ring .carrier → Bool
+same F x y = elim (F .same? x y) [ yes h ↦ true | no h ↦ false ]
