@@ -1,4 +1,5 @@
 pub mod Field
+pub mod Newton
 pub mod Places
 pub mod Poly
 pub mod Ring

@@ -1,7 +1,6 @@
 -- Sums, multiples and products of polynomials that are given by their values, and the root bound for them. Assumes nothing.
 use mathlib.Core.Path.{_≡_, refl, sym, ap, ap₂, _∙_}
-use mathlib.Core.Bool.{true}
-use mathlib.Core.List.{List, [], _∷_}
+use mathlib.Core.List.{[], _∷_}
 use mathlib.Core.Logic.{_≢_}
 use Prim.Native.Nat.{ℕ, _+_, _-_, _≤_, _<_}
 use native.Mathlib.Decide.{decLt}
@@ -114,16 +113,16 @@ module _ (F : Field) (place : ℕ → F .ring .carrier) (n : ℕ) (apart : Injec
       count (λ i. same F (v i) zero) n < k
   few-zeros k v p j l differ = few-agree k v (λ i. zero) p (polynomial-zero (F .ring) place n k) j l differ
 
-  -- two that agree at k places, numbered by at, agree at all
-  pub unique-through : (k : ℕ) (at : ℕ → ℕ) → ((i : ℕ) → i < k → at i < n) → Injective k at →
+  -- two that agree at k places of a choice agree at all
+  pub unique-through : (k : ℕ) (choice : ℕ → ℕ) → ((i : ℕ) → i < k → choice i < n) → Injective k choice →
       (v w : ℕ → carrier) → Polynomial (F .ring) place n k v → Polynomial (F .ring) place n k w →
-      ((i : ℕ) → i < k → v (at i) ≡ w (at i)) →
+      ((i : ℕ) → i < k → v (choice i) ≡ w (choice i)) →
       (j : ℕ) → j < n → v j ≡ w j
-  unique-through k at within different v w p q agree j l =
+  unique-through k choice within different v w p q agree j l =
       sym (p .values j l)
-      ∙ agree-everywhere F k (λ i. place (at i))
-      (λ i m li lm e. different i m li lm (apart (at i) (at m) (within i li) (within m lm) e))
+      ∙ agree-everywhere F k (λ i. place (choice i))
+      (λ i m li lm e. different i m li lm (apart (choice i) (choice m) (within i li) (within m lm) e))
       (p .coefficients) (q .coefficients) (p .short) (q .short)
-      (λ i li. p .values (at i) (within i li) ∙ agree i li ∙ sym (q .values (at i) (within i li)))
+      (λ i li. p .values (choice i) (within i li) ∙ agree i li ∙ sym (q .values (choice i) (within i li)))
       (place j)
       ∙ q .values j l
