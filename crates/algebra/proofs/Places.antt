@@ -6,9 +6,9 @@ use Prim.Native.Nat.{ℕ, _+_, _-_, _≤_, _<_}
 use native.Mathlib.Decide.{decLt}
 use native.Mathlib.Omega.{arith}
 use Rattle.algebra.specs.Field.{Ring, Field, same}
-use Rattle.algebra.specs.Places.{Polynomial}
+use Rattle.algebra.specs.Places.{Polynomial, agreements, zeros}
 use Rattle.algebra.specs.Poly.{value, plus, scaled, times, with-root}
-use Rattle.algebra.specs.Sums.{count, Injective}
+use Rattle.algebra.specs.Sums.{Injective}
 use Rattle.algebra.proofs.Field.{add-zero, mul-zero, same-from-zero, zero-from-same, same-true, eq-same}
 use Rattle.algebra.proofs.Poly.{
   value-plus,
@@ -20,7 +20,7 @@ use Rattle.algebra.proofs.Poly.{
   length-times,
   length-with-root,
 }
-use Rattle.algebra.proofs.Roots.{root-bound, agree-everywhere}
+use Rattle.algebra.proofs.Roots.{roots, root-bound, agree-everywhere}
 use Rattle.algebra.proofs.Sums.{count-mono}
 
 module _ (R : Ring) (place : ℕ → R .carrier) (n : ℕ) where
@@ -77,52 +77,55 @@ module _ (R : Ring) (place : ℕ → R .carrier) (n : ℕ) where
   }
 
 module _ (F : Field) (place : ℕ → F .ring .carrier) (n : ℕ) (apart : Injective n place) where
-  open Ring (F .ring) using (carrier, zero, add, mul)
+  open Ring (F .ring) using (carrier, zero, add)
 
   -- as many places where v vanishes as coefficients: v vanishes at all places
-  pub zero-at-places : (k : ℕ) (v : ℕ → carrier) → Polynomial (F .ring) place n k v → k ≤ count (λ i. same F (v i) zero) n → (j : ℕ) → j < n → v j ≡ zero
-  zero-at-places k v p many j l =
-      let found = count-mono (λ i. same F (v i) zero) (λ i. same F (value (F .ring) (p .coefficients) (place i)) zero) n
-      (λ i m e. eq-same F (value (F .ring) (p .coefficients) (place i)) zero (p .values i m ∙ same-true F (v i) zero e)) in
-      sym (p .values j l) ∙ root-bound F place n apart k (p .coefficients) (p .short) (omega arith) (place j)
+  pub zero-at-places : (k : ℕ) (v : ℕ → carrier) → Polynomial (F .ring) place n k v → k ≤ zeros F n v → (j : ℕ) → j < n → v j ≡ zero
+  zero-at-places k v p many j l = sym (p .values j l) ∙ root-bound F place n apart k (p .coefficients) (p .short) enough (place j)
+    where
+      enough : k ≤ roots F place n (p .coefficients)
+      enough = omega (
+        arith,
+        count-mono (λ i. same F (v i) zero) (λ i. same F (value (F .ring) (p .coefficients) (place i)) zero) n
+            (λ i m e. eq-same F (value (F .ring) (p .coefficients) (place i)) zero (p .values i m ∙ same-true F (v i) zero e)),
+      )
 
-  -- as many places where v and w agree as coefficients: they agree at all places
-  pub same-at-places : (k : ℕ) (v w : ℕ → carrier) →
-      Polynomial (F .ring) place n k v → Polynomial (F .ring) place n k w →
-      k ≤ count (λ i. same F (v i) (w i)) n →
-      (j : ℕ) → j < n → v j ≡ w j
-  same-at-places k v w p q many j l =
-      let agree = count-mono (λ i. same F (v i) (w i)) (λ i. same F (add (v i) (w i)) zero) n
-      (λ i m e. eq-same F (add (v i) (w i)) zero (zero-from-same (F .ring) (v i) (w i) (same-true F (v i) (w i) e))) in
-      same-from-zero (F .ring) (v j) (w j)
-      (zero-at-places k (λ i. add (v i) (w i)) (polynomial-add (F .ring) place n v w k p q) (omega arith) j l)
+  module _ (k : ℕ) (v w : ℕ → carrier) (p : Polynomial (F .ring) place n k v) (q : Polynomial (F .ring) place n k w) where
+    -- as many places where v and w agree as coefficients: they agree at all places
+    pub same-at-places : k ≤ agreements F n v w → (j : ℕ) → j < n → v j ≡ w j
+    same-at-places many j l =
+        same-from-zero (F .ring) (v j) (w j)
+        (zero-at-places k (λ i. add (v i) (w i)) (polynomial-add (F .ring) place n v w k p q) enough j l)
+      where
+        enough : k ≤ zeros F n (λ i. add (v i) (w i))
+        enough = omega (
+          arith,
+          count-mono (λ i. same F (v i) (w i)) (λ i. same F (add (v i) (w i)) zero) n
+              (λ i m e. eq-same F (add (v i) (w i)) zero (zero-from-same (F .ring) (v i) (w i) (same-true F (v i) (w i) e))),
+        )
 
-  -- two that differ somewhere agree at fewer places than they have coefficients: the distance of a code
-  pub few-agree : (k : ℕ) (v w : ℕ → carrier) →
-      Polynomial (F .ring) place n k v → Polynomial (F .ring) place n k w →
-      (j : ℕ) → j < n → v j ≢ w j →
-      count (λ i. same F (v i) (w i)) n < k
-  few-agree k v w p q j l differ =
-      elim (decLt (count (λ i. same F (v i) (w i)) n) k) [
-        | yes h ↦ h
-        | no h ↦ absurd (differ (same-at-places k v w p q (omega arith) j l))
-      ]
+    -- two that differ somewhere agree at fewer places than they have coefficients: the distance of a code
+    pub few-agreements : (j : ℕ) → j < n → v j ≢ w j → agreements F n v w < k
+    few-agreements j l differ =
+        elim (decLt (agreements F n v w) k) [
+          | yes h ↦ h
+          | no h ↦ absurd (differ (same-at-places (omega arith) j l))
+        ]
 
-  pub few-zeros : (k : ℕ) (v : ℕ → carrier) → Polynomial (F .ring) place n k v →
-      (j : ℕ) → j < n → v j ≢ zero →
-      count (λ i. same F (v i) zero) n < k
-  few-zeros k v p j l differ = few-agree k v (λ i. zero) p (polynomial-zero (F .ring) place n k) j l differ
+    -- two that agree at k places of a choice agree at all
+    pub unique-through : (choice : ℕ → ℕ) → ((i : ℕ) → i < k → choice i < n) → Injective k choice →
+        ((i : ℕ) → i < k → v (choice i) ≡ w (choice i)) →
+        (j : ℕ) → j < n → v j ≡ w j
+    unique-through choice within different agree j l =
+        sym (p .values j l)
+        ∙ agree-everywhere F k (λ i. place (choice i)) chosen-apart (p .coefficients) (q .coefficients) (p .short) (q .short) chosen-agree (place j)
+        ∙ q .values j l
+      where
+        chosen-apart : Injective k (λ i. place (choice i))
+        chosen-apart i m li lm e = different i m li lm (apart (choice i) (choice m) (within i li) (within m lm) e)
 
-  -- two that agree at k places of a choice agree at all
-  pub unique-through : (k : ℕ) (choice : ℕ → ℕ) → ((i : ℕ) → i < k → choice i < n) → Injective k choice →
-      (v w : ℕ → carrier) → Polynomial (F .ring) place n k v → Polynomial (F .ring) place n k w →
-      ((i : ℕ) → i < k → v (choice i) ≡ w (choice i)) →
-      (j : ℕ) → j < n → v j ≡ w j
-  unique-through k choice within different v w p q agree j l =
-      sym (p .values j l)
-      ∙ agree-everywhere F k (λ i. place (choice i))
-      (λ i m li lm e. different i m li lm (apart (choice i) (choice m) (within i li) (within m lm) e))
-      (p .coefficients) (q .coefficients) (p .short) (q .short)
-      (λ i li. p .values (choice i) (within i li) ∙ agree i li ∙ sym (q .values (choice i) (within i li)))
-      (place j)
-      ∙ q .values j l
+        chosen-agree : (i : ℕ) → i < k → value (F .ring) (p .coefficients) (place (choice i)) ≡ value (F .ring) (q .coefficients) (place (choice i))
+        chosen-agree i li = p .values (choice i) (within i li) ∙ agree i li ∙ sym (q .values (choice i) (within i li))
+
+  pub few-zeros : (k : ℕ) (v : ℕ → carrier) → Polynomial (F .ring) place n k v → (j : ℕ) → j < n → v j ≢ zero → zeros F n v < k
+  few-zeros k v p = few-agreements k v (λ i. zero) p (polynomial-zero (F .ring) place n k)

@@ -81,3 +81,17 @@ module _ (R : Ring) where
   synthetic-division k [] x h =
       ([], omega arith, λ z. by-ring R (x ∷ z ∷ []) (λ x z. (𝟘, (z ⊕ x) ⊗ 𝟘 ⊕ 𝟘)) tt)
   synthetic-division k (c ∷ p) x h = (quotient R x p, omega (arith, length-quotient x p), value-quotient x c p)
+
+  -- a root x of p splits off the factor X + x
+  pub root-factor : (k : ℕ) (p : List carrier) (x : carrier) → length p ≤ k + 1 → value R p x ≡ zero →
+      (q : List carrier) × (length q ≤ k) × ((z : carrier) → value R p z ≡ mul (add z x) (value R q z))
+  root-factor k p x short root = (q, divided .1, factors)
+    where
+      divided : (q : List carrier) × (length q ≤ k) × ((z : carrier) → value R p z ≡ add (mul (add z x) (value R q z)) (value R p x))
+      divided = synthetic-division k p x short
+
+      q : List carrier
+      q = divided .0
+
+      factors : (z : carrier) → value R p z ≡ mul (add z x) (value R q z)
+      factors z = divided .2 z ∙ ap (add (mul (add z x) (value R q z))) root ∙ add-zero R (mul (add z x) (value R q z))
