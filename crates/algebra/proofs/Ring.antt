@@ -160,7 +160,7 @@ module _ (R : Ring) where
   pub square-add : (a b : carrier) → mul (add a b) (add a b) ≡ add (mul a a) (mul b b)
   square-add a b = by-ring R (a ∷ b ∷ []) (λ a b. ((a ⊕ b) ⊗ (a ⊕ b), a ⊗ a ⊕ b ⊗ b)) tt
 
-  -- a step of the pairs (Q, E) multiplies Q·E′ + Q′·E
+  -- to add d₁ times the pair (q₀, e₀) to d₀ times (q₁, e₁) multiplies q₁·e₀ + e₁·q₀ by d₀
   pub cross-step : (d₀ d₁ q₀ e₀ q₁ e₁ : carrier) →
       add (mul (add (mul d₀ q₁) (mul d₁ q₀)) e₀) (mul (add (mul d₀ e₁) (mul d₁ e₀)) q₀) ≡ mul d₀ (add (mul q₁ e₀) (mul e₁ q₀))
   cross-step d₀ d₁ q₀ e₀ q₁ e₁ =
