@@ -4,7 +4,7 @@ use Prim.Native.Nat.{ℕ, _+_, _<_}
 use Rattle.algebra.specs.Field.{Ring, Field}
 use Rattle.algebra.specs.Places.{Polynomial}
 
--- k places are chosen: v takes the symbols y there, and p, the product of X + x over them, vanishes there and nowhere else
+-- k places are chosen: v takes the symbols y there, and p vanishes there and nowhere else, as the product of X + x over them does
 pub record Newton (F : Field) (place : ℕ → F .ring .carrier) (n : ℕ) (Chosen : ℕ → Type 0) (y : ℕ → F .ring .carrier) (k : ℕ) (v p : ℕ → F .ring .carrier) : Type 0 where
   pub interpolant : Polynomial (F .ring) place n k v
   pub product : Polynomial (F .ring) place n (k + 1) p
