@@ -46,14 +46,14 @@ fn number_at(bytes: &[u8], at: usize) -> usize
     256 * usize::from(bytes[at]) + usize::from(bytes[at + 1])
 }
 
-pub fn read_chain(bytes: &[u8]) -> Result<ChainKind, Fault>
+pub(crate) fn read_chain(bytes: &[u8]) -> Result<ChainKind, Fault>
     ensures { λ r. ⌜ Cases r (λ h. (1 ≤ length (now (bytes .entry))) × (chain-named (getD (now (bytes .entry)) 0 0) ≡ Some h)) (λ f. recipe-refusal (now (bytes .entry)) ≡ Some f) ⌝ }
 {
     check_reaches(bytes, 1)?;
     ChainKind::named(bytes[0]).ok_or(refused(Kind::UnknownChain, 0))
 }
 
-pub fn read_columns(bytes: &[u8], chain: ChainKind) -> Result<usize, Fault>
+pub(crate) fn read_columns(bytes: &[u8], chain: ChainKind) -> Result<usize, Fault>
     requires { ⌜ Known chain ⌝ }
     ensures { λ r. ⌜ Cases r (λ n. (3 ≤ length (now (bytes .entry))) × (n ≡ two-bytes (now (bytes .entry)) 1) × (0 < n) × (cells-of chain * n ≤ 4096)) (λ f. first-broken (chain-rules (now (bytes .entry)) (Some chain)) ≡ Some f) ⌝ }
 {
@@ -67,12 +67,12 @@ pub fn read_columns(bytes: &[u8], chain: ChainKind) -> Result<usize, Fault>
 
 /// The two fields of a stage.
 #[derive(Clone, Copy)]
-pub struct StageFields {
+pub(crate) struct StageFields {
     pub kind: CodeKind,
     pub message_len: usize,
 }
 
-pub fn read_stage(
+pub(crate) fn read_stage(
     bytes: &[u8],
     chain: ChainKind,
     columns: usize,
@@ -95,7 +95,7 @@ pub fn read_stage(
     Ok(StageFields { kind, message_len })
 }
 
-pub fn check_end(bytes: &[u8], end: usize) -> Result<(), Fault>
+pub(crate) fn check_end(bytes: &[u8], end: usize) -> Result<(), Fault>
     ensures { λ r. ⌜ Cases r (λ _. length (now (bytes .entry)) ≤ end) (λ f. (end < length (now (bytes .entry))) × (f ≡ fault BytesLeftOver the-recipe end)) ⌝ }
 {
     if end < bytes.len() {

@@ -107,14 +107,16 @@ impl Recipe {
     pub fn stages(&self) -> &[Stage]
         ensures { λ r. ⌜ now r ≡ used-stages (now (self .entry) .table) ⌝ }
     {
-        &self.table.stages[0..self.table.chain.stages()]
+        let table = &self.table;
+        &table.stages[0..table.chain.stages()]
     }
 
     /// The cells of a page.
     pub fn cells(&self) -> usize
         ensures { λ r. ⌜ r ≡ page-cells (now (self .entry) .table) ⌝ }
     {
-        self.table.chain.cells() * self.table.columns
+        let table = &self.table;
+        table.chain.cells() * table.columns
     }
 
     /// The message bits of a page.

@@ -74,7 +74,7 @@ pub struct Table {
 }
 
 impl Table {
-    pub fn new(chain: ChainKind, columns: usize) -> Self
+    pub(crate) fn new(chain: ChainKind, columns: usize) -> Self
         ensures { λ r. ⌜ r ≡ record { chain = chain; columns = columns; stages = replicate 5 blank } ⌝ }
     {
         Table {
@@ -84,7 +84,7 @@ impl Table {
         }
     }
 
-    pub fn fill(&mut self, i: usize, kind: CodeKind, message_len: usize)
+    pub(crate) fn fill(&mut self, i: usize, kind: CodeKind, message_len: usize)
         requires { ⌜ Known (now self .chain) ⌝ ∗ ⌜ i < stages-of (now self .chain) ⌝ ∗ ⌜ «message_len» ≤ now self .columns ⌝ ∗ ⌜ now self .columns ≤ 4096 ⌝ }
         ensures chain { λ _. ⌜ now (self .exit) .chain ≡ now (self .entry) .chain ⌝ }
         ensures columns { λ _. ⌜ now (self .exit) .columns ≡ now (self .entry) .columns ⌝ }

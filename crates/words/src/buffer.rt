@@ -15,6 +15,19 @@ pub struct Buffer<'a> {
     pub below: usize,
 }
 
+impl<'a> Buffer<'a> {
+    /// A buffer whose content must have a length, and values below a bound.
+    pub fn new(content: &'a [u8], wanted: usize, below: usize) -> Self
+        ensures { λ r. ⌜ given r ≡ record { content = now (content .entry); wanted = wanted; below = below } ⌝ }
+    {
+        Buffer {
+            content,
+            wanted,
+            below,
+        }
+    }
+}
+
 impl Buffer<'_> {
     fn check_length(&self, layer: Layer) -> Result<(), Fault>
         ensures { λ r. ⌜ r ≡ checked (wrong-length layer (given (now (self .entry)))) ⌝ }

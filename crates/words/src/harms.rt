@@ -12,13 +12,19 @@ use crate::fault::Layer;
 /// The most places that a word has.
 pub const MOST_PLACES: usize = 4096;
 
+/// The harm of a blank place (an erasure).
+pub const BLANK: usize = 1;
+
+/// The harm of a readable place that holds the wrong symbol (an error).
+pub const WRONG: usize = 2;
+
 fn harm_at(symbol: u8, mark: u8, sent: u8) -> usize
     ensures { λ r. ⌜ r ≡ harm-at symbol mark sent ⌝ }
 {
     if mark != 0 {
-        1
+        BLANK
     } else if symbol != sent {
-        2
+        WRONG
     } else {
         0
     }
@@ -42,21 +48,9 @@ pub fn harm(layer: Layer, word: &[u8], marks: &[u8], codeword: &[u8]) -> Result<
 {
     let places = word.len().min(MOST_PLACES);
     let buffers = [
-        Buffer {
-            content: word,
-            wanted: places,
-            below: 256,
-        },
-        Buffer {
-            content: marks,
-            wanted: places,
-            below: 2,
-        },
-        Buffer {
-            content: codeword,
-            wanted: places,
-            below: 256,
-        },
+        Buffer::new(word, places, 256),
+        Buffer::new(marks, places, 2),
+        Buffer::new(codeword, places, 256),
     ];
     check_buffers(layer, &buffers)?;
     Ok(total_harm(word, marks, codeword))
