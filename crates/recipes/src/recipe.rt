@@ -1,7 +1,7 @@
 // A recipe that was read: always the table of a pile that can be made.
 ghost use mathlib.Core.Path.{_≡_};
 ghost use mathlib.Core.List.{map};
-ghost use Prim.Native.Nat.{_/_, _<_, _≤_};
+ghost use Prim.Native.Nat.{_/_, _<_, _≤_, min};
 ghost use lib.ListN.{length};
 ghost use Rattle.std.specs.Results.{Cases};
 ghost use Rattle.std.specs.shelf.Lists.{All, sumBy};
@@ -55,6 +55,12 @@ fn reach_of(stage: &Stage) -> usize
     stage.inner * stage.distance
 }
 
+fn lesser(a: usize, b: usize) -> usize
+    ensures { λ r. ⌜ r ≡ min a b ⌝ }
+{
+    if a < b { a } else { b }
+}
+
 fn sum_bits(stages: &[Stage]) -> usize
     requires { ⌜ All Bounded (now stages) ⌝ ∗ ⌜ length (now stages) ≤ 5 ⌝ }
     ensures { λ r. ⌜ r ≡ sumBy stage-bits (now (stages .entry)) ⌝ }
@@ -72,7 +78,7 @@ fn least_reach(stages: &[Stage]) -> usize
 {
     let mut reach = reach_of(&stages[0]);
     for stage in stages {
-        reach = reach.min(reach_of(stage));
+        reach = lesser(reach, reach_of(stage));
     }
     reach
 }

@@ -24,7 +24,7 @@ loop-stage-again c =
     let xs = c .args .stages .now in
     let i = c .loop-stage .stage-index in
     let rest = at-drop-more (λ ys. least (c .loop-stage .reach) (map stage-reach ys)) xs i blank (c .loop-stage-test .taken) in
-    let value = c .min-reach .ensures ∙ ap (min (c .loop-stage .reach)) (c .reach-of .ensures) in
+    let value = c .lesser-reach .ensures ∙ ap (min (c .loop-stage .reach)) (c .reach-of .ensures) in
     ap (λ m. least m (map stage-reach (drop (i + 1) xs))) value ∙ sym rest ∙ c .loop-stage .inv
 
 pub returns : need.returns
