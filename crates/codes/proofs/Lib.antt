@@ -1,0 +1,3 @@
+pub mod Nearness
+pub mod Simple
+pub mod Working

@@ -1,0 +1,5 @@
+pub mod Either
+pub mod Kinds
+pub mod Making
+pub mod Model
+pub mod Promises
