@@ -1,3 +1,5 @@
+pub mod Against
 pub mod Nearness
+pub mod Repeats
 pub mod Simple
 pub mod Working

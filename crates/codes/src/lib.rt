@@ -3,3 +3,4 @@ pub mod checks;
 pub mod code;
 pub mod either;
 pub mod open;
+pub mod repetition;
