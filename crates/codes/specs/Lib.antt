@@ -1,4 +1,5 @@
 pub mod Either
+pub mod Examples
 pub mod Kinds
 pub mod Making
 pub mod Model

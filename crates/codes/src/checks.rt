@@ -1,12 +1,17 @@
 // The checks of a code's buffers, in the order message, word, marks.
 ghost use mathlib.Core.Path.{_≡_};
 ghost use mathlib.Core.List.{[], _∷_};
+ghost use Prim.Native.Nat.{_<_, _≤_};
+ghost use Rattle.std.specs.Results.{Cases};
+ghost use Rattle.words.specs.declared.fault.Kind.the-variants.{NoCodeword};
 ghost use Rattle.words.specs.declared.fault.Layer.the-variants.{Code as the-code};
 ghost use Rattle.words.specs.Buffers.{checked, refusal};
+ghost use Rattle.words.specs.Faults.{fault};
 ghost use Rattle.codes.specs.Promises.{values-below, written-to, marks-of};
 use words::buffer::Buffer;
 use words::buffer::check_buffers;
 use words::fault::Fault;
+use words::fault::Kind;
 use words::fault::Layer;
 
 /// The checks of encode: a message of symbols, and a word that is only written to.
@@ -49,4 +54,15 @@ pub fn check_correct(symbols: usize, word: &[u8], marks: &[u8], len: usize) -> R
 {
     let buffers = [Buffer::new(word, len, symbols), Buffer::new(marks, len, 2)];
     check_buffers(Layer::Code, &buffers)
+}
+
+/// Refuses a harm that is not below a distance: the codeword that was found is not near enough.
+pub fn check_near(harm: usize, distance: usize) -> Result<(), Fault>
+    ensures { λ r. ⌜ Cases r (λ _. harm < distance) (λ f. (distance ≤ harm) × (f ≡ fault NoCodeword the-code 0)) ⌝ }
+{
+    if harm < distance {
+        Ok(())
+    } else {
+        Err(Fault::new(Kind::NoCodeword, Layer::Code, 0))
+    }
 }

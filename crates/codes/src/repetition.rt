@@ -10,6 +10,7 @@ ghost use Rattle.codes.specs.Making.{In-range, Made};
 use crate::checks::check_correct;
 use crate::checks::check_encode;
 use crate::checks::check_message_of;
+use crate::checks::check_near;
 use crate::code::Code;
 use words::fault::Fault;
 use words::fault::Kind;
@@ -130,9 +131,7 @@ pub impl Code for Repetition as RepetitionCode {
         check_correct(1 << self.width, word, marks, self.len)?;
         let symbol = majority(word, marks, 1 << self.width);
         let found = harm_against(word, marks, symbol)?;
-        if found >= self.len {
-            return Err(Fault::new(Kind::NoCodeword, Layer::Code, 0));
-        }
+        check_near(found, self.len)?;
         word.fill(symbol);
         Ok(found)
     }

@@ -6,6 +6,7 @@ use lib.ListN.{length, getD, replicate}
 use Rattle.std.specs.declared.result.Result.the-variants.{Ok, Err}
 use Rattle.words.specs.declared.fault.Fault.{Fault}
 use Rattle.words.specs.Harm.{harm}
+use Rattle.words.proofs.Rises.{raised}
 use Rattle.codes.specs.Kinds.{repetition-code, readable-count}
 use Rattle.codes.specs.Promises.{Corrected}
 use Rattle.codes.proofs.Repeats.{more-is-nearer, first-symbol}
@@ -22,8 +23,8 @@ harm-against-requires c κs =
     let fit = damage-fits model word marks none in
     (omega (arith, fit .0 .0, self .short), (fit .1 .0 ∙ sym (fit .0 .0), fit .1 .1))
 
-pub returns-then-found-self : need.returns-then-found-self
-returns-then-found-self c =
+pub returns-in-Break-check-near : need.returns-in-Break-check-near
+returns-in-Break-check-near c =
     let self = c .args .self .now in
     let m = self .width in
     let n = self .len in
@@ -39,9 +40,9 @@ returns-then-found-self c =
     let s = getD u 0 0 in
     let fewer = c .majority-symbol .ensures .1 s (subst (λ (k : ℕ). s < k) (sym (shifted m (self .narrow))) small) in
     let nearer = more-is-nearer p s word marks (fit .1 .0 ∙ sym (fit .0 .0)) fewer in
-    omega (arith, nearer, found, ap (λ k. harm word marks (replicate k s)) (fit .0 .0), near, c .if-found-self .taken) in
+    omega (arith, nearer, found, ap (λ k. harm word marks (replicate k s)) (fit .0 .0), near, c .in-Break-check-near .ensures tt .0) in
     record {
-      sound = λ _. subst (λ (x : Fault). Corrected model word marks word (Err x)) (sym (c .new .ensures)) (uncorrected model word marks 0 none refl (λ u near. far u (near .0 .0) (first-symbol m u (near .0 .0) (near .0 .1)) (near .1)));
+      sound = λ _. rw (raised _ (c .from-residual-in-Break-check-near .ensures .1), c .in-Break-check-near .ensures tt .1) (uncorrected model word marks 0 none refl (λ u near. far u (near .0 .0) (first-symbol m u (near .0 .0) (near .0 .1)) (near .1)));
       unsound = λ no. absurd (no tt);
     }
 
@@ -62,6 +63,6 @@ returns c =
     let small : p < 2 ^ m = subst (λ (k : ℕ). p < k) (shifted m (self .narrow)) (c .majority-symbol .ensures .0) in
     let filled : c .fill .last .self ≡ replicate n p = c .fill .ensures .after (λ y e. e) ∙ ap (λ k. replicate k p) (fit .0 .0) in
     record {
-      sound = λ _. corrected model word marks (c .fill .last .self) (c .in-Continue-found .found) none (p ∷ []) ((refl, (small, tt)), omega (arith, is, c .if-found-self .left)) filled is;
+      sound = λ _. corrected model word marks (c .fill .last .self) (c .in-Continue-found .found) none (p ∷ []) ((refl, (small, tt)), omega (arith, is, c .in-Continue-check-near .ensures tt)) filled is;
       unsound = λ no. absurd (no tt);
     }
