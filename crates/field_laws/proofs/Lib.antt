@@ -1,0 +1,5 @@
+pub mod Everywhere
+pub mod Linear
+pub mod Products
+pub mod Generator
+pub mod PolynomialLaws

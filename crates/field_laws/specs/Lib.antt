@@ -1,0 +1,4 @@
+pub mod Fields
+pub mod Polynomials
+pub mod Extensions
+pub mod Tables
