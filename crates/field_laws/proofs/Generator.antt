@@ -6,7 +6,7 @@ use native.Mathlib.Nat.{add-zero, add-suc}
 use native.Mathlib.Omega.{arith}
 use lib.Dec.{T, eqb, ltb, eqb→eq, ltb→lt}
 use lib.ListN.{getD}
-use Rattle.field_laws.specs.Polynomials.{gate, double, times, modulus}
+use Rattle.field_laws.specs.Polynomials.{gate, double, times}
 use Rattle.field_laws.specs.Tables.{logs, antilogs}
 use lib.Pow.{pow-mono}
 use Rattle.std.proofs.shelf.Bits.{pow-below}
@@ -33,7 +33,7 @@ unfolding starts
 all-start = tt
 
 all-rise : T (every 8 λ m. rises (suc m))
-unfolding rises double gate modulus
+unfolding rises double gate
 all-rise = tt
 
 all-find : T (every 8 λ m. finds (suc m))

@@ -3,3 +3,4 @@ pub mod Linear
 pub mod Products
 pub mod Generator
 pub mod PolynomialLaws
+pub mod Widths

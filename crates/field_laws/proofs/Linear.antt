@@ -81,13 +81,13 @@ pub gate-adds-bits : (a : ℕ) → Additive (λ b. gate b a)
 gate-adds-bits a x y =
     ⊎-elim
     (λ e. ⊎-elim
-      (λ d. shut (bitXor x y) a (xor-mod x y 1 ∙ ap₂ bitXor e d) ∙ sym (ap₂ bitXor (shut x a e) (shut y a d)))
-      (λ d. passes (bitXor x y) a (xor-mod x y 1 ∙ ap₂ bitXor e d) ∙ sym (ap₂ bitXor (shut x a e) (passes y a d)))
-      (bit y))
+    (λ d. shut (bitXor x y) a (xor-mod x y 1 ∙ ap₂ bitXor e d) ∙ sym (ap₂ bitXor (shut x a e) (shut y a d)))
+    (λ d. passes (bitXor x y) a (xor-mod x y 1 ∙ ap₂ bitXor e d) ∙ sym (ap₂ bitXor (shut x a e) (passes y a d)))
+    (bit y))
     (λ e. ⊎-elim
-      (λ d. passes (bitXor x y) a (xor-mod x y 1 ∙ ap₂ bitXor e d) ∙ sym (ap₂ bitXor (passes x a e) (shut y a d) ∙ xor-zero-r a))
-      (λ d. shut (bitXor x y) a (xor-mod x y 1 ∙ ap₂ bitXor e d) ∙ sym (ap₂ bitXor (passes x a e) (passes y a d) ∙ xor-self a))
-      (bit y))
+    (λ d. passes (bitXor x y) a (xor-mod x y 1 ∙ ap₂ bitXor e d) ∙ sym (ap₂ bitXor (passes x a e) (shut y a d) ∙ xor-zero-r a))
+    (λ d. shut (bitXor x y) a (xor-mod x y 1 ∙ ap₂ bitXor e d) ∙ sym (ap₂ bitXor (passes x a e) (passes y a d) ∙ xor-self a))
+    (bit y))
     (bit x)
 
 twice-adds : (x y : ℕ) → 2 * bitXor x y ≡ bitXor (2 * x) (2 * y)

@@ -30,8 +30,8 @@ seek-some p (suc n) b below passes alone =
     ⊎-elim
     (λ e. cond-true (p n) (Some n) (seek p n) e ∙ ap Some (alone n (omega arith) e))
     (λ e.
-      let apart : n ≡ b → ⊥ = λ same. true≢false (sym passes ∙ ap p (sym same) ∙ e) in
-      cond-false (p n) (Some n) (seek p n) e ∙ seek-some p n b (omega arith) passes (λ k lt. alone k (omega arith)))
+    let apart : n ≡ b → ⊥ = λ same. true≢false (sym passes ∙ ap p (sym same) ∙ e) in
+    cond-false (p n) (Some n) (seek p n) e ∙ seek-some p n b (omega arith) passes (λ k lt. alone k (omega arith)))
     (cases-bool (p n))
 
 module _ (m : ℕ) (least : 1 ≤ m) (most : m ≤ 8) where
@@ -71,9 +71,9 @@ module _ (m : ℕ) (least : 1 ≤ m) (most : m ≤ 8) where
     distributes = λ a b c _ _ _. times-adds-bits m m a b c;
     none-of-zero = zero-none;
     some-of-others = λ a ha na.
-      let la = log-below m least most a na ha in
-      let b : ℕ = antilog m (2 ^ m - 1 - log m a) in
-      let hb : b < 2 ^ m = antilog-below m least most (2 ^ m - 1 - log m a) (omega arith) in
-      let e = reciprocal-by-log m least most a na ha in
-      (b, hb, reciprocal-is a b ha hb e, e);
+        let la = log-below m least most a na ha in
+        let b : ℕ = antilog m (2 ^ m - 1 - log m a) in
+        let hb : b < 2 ^ m = antilog-below m least most (2 ^ m - 1 - log m a) (omega arith) in
+        let e = reciprocal-by-log m least most a na ha in
+        (b, hb, reciprocal-is a b ha hb e, e);
   }

@@ -9,7 +9,7 @@ use lib.Bits.{bitXor, xor-lt}
 use lib.Dec.{T, eqb, ltb, eqb→eq, ltb→lt}
 use lib.ListN.{getD}
 use lib.Pow.{pow-pos}
-use Rattle.field_laws.specs.Polynomials.{gate, double, times, modulus}
+use Rattle.field_laws.specs.Polynomials.{gate, double, times}
 use Rattle.field_laws.specs.Tables.{logs, antilogs}
 use Rattle.field_laws.proofs.Everywhere.{every, at, each-width}
 use Rattle.field_laws.proofs.Linear.{Additive, agree, bounded, gate-le, double-adds, times-adds, times-adds-bits}
@@ -34,23 +34,23 @@ associates m =
     eqb (times m m (times m m (2 ^ i) (2 ^ j)) (2 ^ k)) (times m m (2 ^ i) (times m m (2 ^ j) (2 ^ k)))
 
 all-double : T (every 8 λ m. doubles (suc m))
-unfolding doubles double gate modulus
+unfolding doubles double gate
 all-double = tt
 
 all-one : T (every 8 λ m. ones (suc m))
-unfolding ones times double gate modulus
+unfolding ones times double gate
 all-one = tt
 
 all-carry : T (every 8 λ m. carries (suc m))
-unfolding carries times double gate modulus
+unfolding carries times double gate
 all-carry = tt
 
 all-commute : T (every 8 λ m. commutes (suc m))
-unfolding commutes times double gate modulus
+unfolding commutes times double gate
 all-commute = tt
 
 all-associate : T (every 8 λ m. associates (suc m))
-unfolding associates times double gate modulus
+unfolding associates times double gate
 all-associate = tt
 
 module _ (m : ℕ) (least : 1 ≤ m) (most : m ≤ 8) where
@@ -76,7 +76,7 @@ module _ (m : ℕ) (least : 1 ≤ m) (most : m ≤ 8) where
   times-comm a b ha hb =
       agree (λ x. times m m x b) (times m m b) (times-adds m m b) (times-adds-bits m m b) m
       (λ i h. agree (times m m (2 ^ i)) (λ y. times m m y (2 ^ i)) (times-adds-bits m m (2 ^ i)) (times-adds m m (2 ^ i)) m
-        (λ j k. eqb→eq _ _ (at m _ (at m _ (each-width commutes all-commute m least most) i h) j k)) b hb)
+      (λ j k. eqb→eq _ _ (at m _ (at m _ (each-width commutes all-commute m least most) i h) j k)) b hb)
       a ha
 
   pub times-double : (a b : ℕ) → a < 2 ^ m → b < 2 ^ m → times m m a (double m b) ≡ double m (times m m a b)
@@ -85,9 +85,9 @@ module _ (m : ℕ) (least : 1 ≤ m) (most : m ≤ 8) where
       agree (λ x. times m m x (double m b)) (λ x. double m (times m m x b)) (times-adds m m (double m b))
       (λ x y. ap (double m) (times-adds m m b x y) ∙ double-adds m (times m m x b) (times m m y b)) m
       (λ i h. agree (λ y. times m m (2 ^ i) (double m y)) (λ y. double m (times m m (2 ^ i) y))
-        (λ x y. ap (times m m (2 ^ i)) (double-adds m x y) ∙ times-adds-bits m m (2 ^ i) (double m x) (double m y))
-        (λ x y. ap (double m) (times-adds-bits m m (2 ^ i) x y) ∙ double-adds m (times m m (2 ^ i) x) (times m m (2 ^ i) y)) m
-        (λ j k. eqb→eq _ _ (at m _ (at m _ (each-width carries all-carry m least most) i h) j k)) b hb)
+      (λ x y. ap (times m m (2 ^ i)) (double-adds m x y) ∙ times-adds-bits m m (2 ^ i) (double m x) (double m y))
+      (λ x y. ap (double m) (times-adds-bits m m (2 ^ i) x y) ∙ double-adds m (times m m (2 ^ i) x) (times m m (2 ^ i) y)) m
+      (λ j k. eqb→eq _ _ (at m _ (at m _ (each-width carries all-carry m least most) i h) j k)) b hb)
       a ha
 
   -- the product of a product is additive in each of the three
@@ -98,11 +98,11 @@ module _ (m : ℕ) (least : 1 ≤ m) (most : m ≤ 8) where
       (λ x y. ap (λ z. times m m z c) (times-adds m m b x y) ∙ times-adds m m c (times m m x b) (times m m y b))
       (times-adds m m (times m m b c)) m
       (λ i hi. agree (λ y. times m m (times m m (2 ^ i) y) c) (λ y. times m m (2 ^ i) (times m m y c))
-        (λ x y. ap (λ z. times m m z c) (times-adds-bits m m (2 ^ i) x y) ∙ times-adds m m c (times m m (2 ^ i) x) (times m m (2 ^ i) y))
-        (λ x y. ap (times m m (2 ^ i)) (times-adds m m c x y) ∙ times-adds-bits m m (2 ^ i) (times m m x c) (times m m y c)) m
-        (λ j hj. agree (times m m (times m m (2 ^ i) (2 ^ j))) (λ z. times m m (2 ^ i) (times m m (2 ^ j) z))
-          (times-adds-bits m m (times m m (2 ^ i) (2 ^ j)))
-          (λ x y. ap (times m m (2 ^ i)) (times-adds-bits m m (2 ^ j) x y) ∙ times-adds-bits m m (2 ^ i) (times m m (2 ^ j) x) (times m m (2 ^ j) y)) m
-          (λ k hk. eqb→eq _ _ (at m _ (at m _ (at m _ (each-width associates all-associate m least most) i hi) j hj) k hk)) c hc)
-        b hb)
+      (λ x y. ap (λ z. times m m z c) (times-adds-bits m m (2 ^ i) x y) ∙ times-adds m m c (times m m (2 ^ i) x) (times m m (2 ^ i) y))
+      (λ x y. ap (times m m (2 ^ i)) (times-adds m m c x y) ∙ times-adds-bits m m (2 ^ i) (times m m x c) (times m m y c)) m
+      (λ j hj. agree (times m m (times m m (2 ^ i) (2 ^ j))) (λ z. times m m (2 ^ i) (times m m (2 ^ j) z))
+      (times-adds-bits m m (times m m (2 ^ i) (2 ^ j)))
+      (λ x y. ap (times m m (2 ^ i)) (times-adds-bits m m (2 ^ j) x y) ∙ times-adds-bits m m (2 ^ i) (times m m (2 ^ j) x) (times m m (2 ^ j) y)) m
+      (λ k hk. eqb→eq _ _ (at m _ (at m _ (at m _ (each-width associates all-associate m least most) i hi) j hj) k hk)) c hc)
+      b hb)
       a ha

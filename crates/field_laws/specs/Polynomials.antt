@@ -14,7 +14,7 @@ use Rattle.field_laws.specs.Fields.{Field-model}
 abbrev pub moduli : List ℕ
 moduli = 0x3 ∷ 0x7 ∷ 0xB ∷ 0x13 ∷ 0x25 ∷ 0x43 ∷ 0x89 ∷ 0x11D ∷ []
 
-unfoldable pub modulus : ℕ → ℕ
+abbrev pub modulus : ℕ → ℕ
 modulus m = getD moduli (m - 1) 0
 
 -- a polynomial times the lowest coefficient of b

@@ -1,0 +1,5 @@
+// Fields of 2 to 256 elements in which x + x = 0: the polynomial fields, and extensions of small fields.
+pub mod field;
+pub mod polynomial;
+mod refusals;
+mod tables;
