@@ -1,0 +1,7 @@
+pub mod Field
+pub mod Newton
+pub mod Places
+pub mod Poly
+pub mod Ring
+pub mod Roots
+pub mod Sums
