@@ -4,3 +4,6 @@ pub mod Products
 pub mod Generator
 pub mod PolynomialLaws
 pub mod Widths
+pub mod Elements
+pub mod Pairs
+pub mod ExtensionLaws

@@ -12,30 +12,29 @@ pub record Extends (f : Field-model) (c : ℕ) : Type 0 where
   pub element : c < size f
   pub rootless : (e : ℕ) → e < size f → f .sum (f .product e e) e ≡ c → ⊥
 
-module _ (f : Field-model) (c : ℕ) where
-  -- a + b·y
-  abbrev pub joined : ℕ → ℕ → ℕ
-  joined a b = a + size f * b
+-- a + b·y
+abbrev pub joined : Field-model → ℕ → ℕ → ℕ
+joined f a b = a + size f * b
 
-  -- (a + b·y) (u + v·y) = (a·u + c·(b·v)) + ((a·v + b·u) + b·v)·y
-  abbrev pub joined-product : ℕ → ℕ → ℕ → ℕ → ℕ
-  joined-product a b u v =
-      joined (f .sum (f .product a u) (f .product c (f .product b v)))
-      (f .sum (f .sum (f .product a v) (f .product b u)) (f .product b v))
+-- (a + b·y)·(u + v·y) = (a·u + c·(b·v)) + ((a·v + b·u) + b·v)·y
+abbrev pub joined-product : Field-model → (c a b u v : ℕ) → ℕ
+joined-product f c a b u v =
+    joined f (f .sum (f .product a u) (f .product c (f .product b v)))
+    (f .sum (f .sum (f .product a v) (f .product b u)) (f .product b v))
 
-  -- a² + a·b + c·b²
-  abbrev pub norm : ℕ → ℕ → ℕ
-  norm a b = f .sum (f .sum (f .product a a) (f .product a b)) (f .product c (f .product b b))
+-- (a + b·y)·((a + b) + b·y) = a·a + a·b + c·(b·b)
+abbrev pub norm : Field-model → (c a b : ℕ) → ℕ
+norm f c a b = f .sum (f .sum (f .product a a) (f .product a b)) (f .product c (f .product b b))
 
-  -- (a + b·y) times ((a + b) + b·y) is the norm
-  abbrev pub joined-reciprocal : ℕ → ℕ → Option ℕ → Option ℕ
-  joined-reciprocal a b None = None
-  joined-reciprocal a b (Some i) = Some (joined (f .product i (f .sum a b)) (f .product i b))
+-- ((a + b) + b·y) times the norm's reciprocal
+abbrev pub joined-reciprocal : Field-model → (a b : ℕ) → Option ℕ → Option ℕ
+joined-reciprocal f a b None = None
+joined-reciprocal f a b (Some i) = Some (joined f (f .product i (f .sum a b)) (f .product i b))
 
-  abbrev pub extension : Field-model
-  extension = record {
-    width = 2 * f .width;
-    sum = λ x y. joined (f .sum (x % size f) (y % size f)) (f .sum (x / size f) (y / size f));
-    product = λ x y. joined-product (x % size f) (x / size f) (y % size f) (y / size f);
-    reciprocal = λ x. joined-reciprocal (x % size f) (x / size f) (f .reciprocal (norm (x % size f) (x / size f)));
-  }
+abbrev pub extension : Field-model → ℕ → Field-model
+extension f c = record {
+  width = 2 * f .width;
+  sum = λ x y. joined f (f .sum (x % size f) (y % size f)) (f .sum (x / size f) (y / size f));
+  product = λ x y. joined-product f c (x % size f) (x / size f) (y % size f) (y / size f);
+  reciprocal = λ x. joined-reciprocal f (x % size f) (x / size f) (f .reciprocal (norm f c (x % size f) (x / size f)));
+}
