@@ -71,7 +71,7 @@ module _ (f : Field-model) (laws : Field-laws f) (c : ℕ) (extends : Extends f 
   -- ---- the norm
 
   abbrev norm-of : P → Element f
-  norm-of p = R .add (R .add (R .mul (p .0) (p .0)) (R .mul (p .0) (p .1))) (R .mul c′ (R .mul (p .1) (p .1)))
+  norm-of p = R .add (R .mul (p .0) (R .add (p .0) (p .1))) (R .mul c′ (R .mul (p .1) (p .1)))
 
   -- the pair of i·(a + b) and i·b
   abbrev over : P → Element f → P
@@ -81,7 +81,7 @@ module _ (f : Field-model) (laws : Field-laws f) (c : ℕ) (extends : Extends f 
   times-over p i e =
       same
       (by-ring R (c′ ∷ p .0 ∷ p .1 ∷ i ∷ [])
-      (λ c a b i. (low _⊕_ _⊗_ c a b (i ⊗ (a ⊕ b)) (i ⊗ b), (a ⊗ a ⊕ a ⊗ b ⊕ c ⊗ (b ⊗ b)) ⊗ i)) tt
+      (λ c a b i. (low _⊕_ _⊗_ c a b (i ⊗ (a ⊕ b)) (i ⊗ b), (a ⊗ (a ⊕ b) ⊕ c ⊗ (b ⊗ b)) ⊗ i)) tt
       ∙ e)
       (by-ring R (p .0 ∷ p .1 ∷ i ∷ []) (λ a b i. (high _⊕_ _⊗_ a b (i ⊗ (a ⊕ b)) (i ⊗ b), 𝟘)) tt)
 
@@ -94,7 +94,7 @@ module _ (f : Field-model) (laws : Field-laws f) (c : ℕ) (extends : Extends f 
       let e : Element f = R .mul (p .0) v in
       let whole : R .mul (R .mul v v) (norm-of p) ≡ R .add (R .add (R .mul e e) (R .mul e (R .mul (p .1) v))) (R .mul c′ (R .mul (R .mul (p .1) v) (R .mul (p .1) v)))
       = by-ring R (c′ ∷ p .0 ∷ p .1 ∷ v ∷ [])
-      (λ c a b v. (v ⊗ v ⊗ (a ⊗ a ⊕ a ⊗ b ⊕ c ⊗ (b ⊗ b)), a ⊗ v ⊗ (a ⊗ v) ⊕ a ⊗ v ⊗ (b ⊗ v) ⊕ c ⊗ (b ⊗ v ⊗ (b ⊗ v)))) tt in
+      (λ c a b v. (v ⊗ v ⊗ (a ⊗ (a ⊕ b) ⊕ c ⊗ (b ⊗ b)), a ⊗ v ⊗ (a ⊗ v) ⊕ a ⊗ v ⊗ (b ⊗ v) ⊕ c ⊗ (b ⊗ v ⊗ (b ⊗ v)))) tt in
       let ones : R .add (R .add (R .mul e e) (R .mul e (R .mul (p .1) v))) (R .mul c′ (R .mul (R .mul (p .1) v) (R .mul (p .1) v))) ≡ R .add (R .add (R .mul e e) e) c′
       = ap (λ (u : Element f). R .add (R .add (R .mul e e) (R .mul e u)) (R .mul c′ (R .mul u u))) unit
       ∙ by-ring R (c′ ∷ e ∷ []) (λ c e. (e ⊗ e ⊕ e ⊗ 𝟙 ⊕ c ⊗ (𝟙 ⊗ 𝟙), e ⊗ e ⊕ e ⊕ c)) tt in
@@ -103,8 +103,8 @@ module _ (f : Field-model) (laws : Field-laws f) (c : ℕ) (extends : Extends f 
 
   norm-plain : (p : P) → p .1 ≡ R .zero → norm-of p ≡ R .mul (p .0) (p .0)
   norm-plain p e =
-      ap (λ (b : Element f). R .add (R .add (R .mul (p .0) (p .0)) (R .mul (p .0) b)) (R .mul c′ (R .mul b b))) e
-      ∙ by-ring R (c′ ∷ p .0 ∷ []) (λ c a. (a ⊗ a ⊕ a ⊗ 𝟘 ⊕ c ⊗ (𝟘 ⊗ 𝟘), a ⊗ a)) tt
+      ap (λ (b : Element f). R .add (R .mul (p .0) (R .add (p .0) b)) (R .mul c′ (R .mul b b))) e
+      ∙ by-ring R (c′ ∷ p .0 ∷ []) (λ c a. (a ⊗ (a ⊕ 𝟘) ⊕ c ⊗ (𝟘 ⊗ 𝟘), a ⊗ a)) tt
 
   norm-apart : (p : P) → p ≢ (R .zero, R .zero) → norm-of p ≢ R .zero
   norm-apart p apart none = elim (F .same? (p .1) (R .zero)) [ yes e ↦ plain e | no n ↦ norm-over p (F .inv (p .1)) (F .mul-inv (p .1) n) none ]
@@ -153,7 +153,7 @@ module _ (f : Field-model) (laws : Field-laws f) (c : ℕ) (extends : Extends f 
   norm-zero : norm-of (of 0 zero-below) ≡ R .zero
   norm-zero =
       ap norm-of (of-number (R .zero, R .zero) 0 zero-below zero-number)
-      ∙ by-ring R (c′ ∷ []) (λ c. (𝟘 ⊗ 𝟘 ⊕ 𝟘 ⊗ 𝟘 ⊕ c ⊗ (𝟘 ⊗ 𝟘), 𝟘)) tt
+      ∙ by-ring R (c′ ∷ []) (λ c. (𝟘 ⊗ (𝟘 ⊕ 𝟘) ⊕ c ⊗ (𝟘 ⊗ 𝟘), 𝟘)) tt
 
   others : (x : ℕ) → x < size E → (x ≡ 0 → ⊥) → (y : ℕ) × (y < size E) × (E .reciprocal x ≡ Some y) × (E .product x y ≡ 1)
   others x hx apart =

@@ -7,3 +7,4 @@ pub mod Widths
 pub mod Elements
 pub mod Pairs
 pub mod ExtensionLaws
+pub mod Reciprocals

@@ -6,11 +6,15 @@ use Rattle.std.specs.declared.option.Option.{Option}
 use Rattle.std.specs.declared.option.Option.the-variants.{Some, None}
 use Rattle.field_laws.specs.Fields.{Field-model, size}
 
--- a field of at most 16 elements, and c one of them, and no element e has e·e + e = c
+-- no element e has e·e + e = c
+abbrev pub Rootless : Field-model → ℕ → Type 0
+Rootless f c = (e : ℕ) → e < size f → f .sum (f .product e e) e ≡ c → ⊥
+
+-- a field of at most 16 elements, one of them, c, and no root of y·y = y + c
 pub record Extends (f : Field-model) (c : ℕ) : Type 0 where
   pub narrow : f .width ≤ 4
   pub element : c < size f
-  pub rootless : (e : ℕ) → e < size f → f .sum (f .product e e) e ≡ c → ⊥
+  pub rootless : Rootless f c
 
 -- a + b·y
 abbrev pub joined : Field-model → ℕ → ℕ → ℕ
@@ -22,9 +26,9 @@ joined-product f c a b u v =
     joined f (f .sum (f .product a u) (f .product c (f .product b v)))
     (f .sum (f .sum (f .product a v) (f .product b u)) (f .product b v))
 
--- (a + b·y)·((a + b) + b·y) = a·a + a·b + c·(b·b)
+-- (a + b·y)·((a + b) + b·y) = a·(a + b) + c·(b·b)
 abbrev pub norm : Field-model → (c a b : ℕ) → ℕ
-norm f c a b = f .sum (f .sum (f .product a a) (f .product a b)) (f .product c (f .product b b))
+norm f c a b = f .sum (f .product a (f .sum a b)) (f .product c (f .product b b))
 
 -- ((a + b) + b·y) times the norm's reciprocal
 abbrev pub joined-reciprocal : Field-model → (a b : ℕ) → Option ℕ → Option ℕ
