@@ -22,6 +22,18 @@ pub struct Extension<F> {
     c: u8,
 }
 
+impl<F: Field + Copy> Extension<F> {
+    /// The extension by y·y = y + c. It is lawful exactly if `base` is sound and has at most 16 elements, c is one of them, and no
+    /// element e has e·e + e = c; else 13.
+    pub fn new(base: F, c: u8) -> Result<Extension<F>, Fault>
+        ensures { λ r. ⌜ Makes (F·Field .sound base × Extends (F·Field .model base) c) (λ (x : Extension F). (x .base ≡ base) × (x .c ≡ c)) r ⌝ }
+    {
+        let field = Extension { base, c };
+        field.check()?;
+        Ok(field)
+    }
+}
+
 pub impl<F: Field> Field for Extension<F> as ExtensionField {
     ghost model = { λ x. extension (F·Field .model (x .base)) (x .c) };
 
