@@ -8,3 +8,4 @@ pub mod Elements
 pub mod Pairs
 pub mod ExtensionLaws
 pub mod Reciprocals
+pub mod Roots

@@ -5,3 +5,4 @@ pub mod field;
 pub mod polynomial;
 mod refusals;
 mod tables;
+pub mod worked;

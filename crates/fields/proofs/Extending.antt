@@ -1,0 +1,51 @@
+-- The extensions of recipes are lawful. Assumes nothing.
+use mathlib.Core.Path.{_≡_, refl, sym, ap, _∙_, subst}
+use mathlib.Core.Logic.{_⊎_, inl, inr, ⊎-elim}
+use Prim.Native.Nat.{ℕ, _*_, _/_, _≤_}
+use lib.Dec.{lit≤}
+use Rattle.std.specs.declared.result.Result.{Result}
+use Rattle.std.specs.declared.result.Result.the-variants.{Ok, Err}
+use Rattle.words.specs.declared.fault.Fault.{Fault}
+use Rattle.field_laws.specs.Polynomials.{polynomial}
+use Rattle.field_laws.specs.Extensions.{Extends}
+use Rattle.field_laws.proofs.PolynomialLaws.{polynomial-laws}
+use Rattle.field_laws.proofs.ExtensionLaws.{extension-laws}
+use Rattle.field_laws.proofs.Roots.{extends-2, extends-4, extends-6, extends-8}
+use Rattle.fields.specs.Answers.{Makes}
+use Rattle.fields.specs.Recipe.{Recipe-constant, Recipe-width, Recipe-extension}
+use Rattle.fields.specs.declared.extension.Extension.{Extension}
+use Rattle.fields.specs.declared.polynomial.Polynomial.{Polynomial}
+
+at-two : Recipe-extension 2 1 1
+at-two = record { half-width = refl; constant = inl (refl, refl); extends = extends-2; lawful = extension-laws (polynomial 1) (polynomial-laws 1 (lit≤ tt) (lit≤ tt)) 1 extends-2 }
+
+at-four : Recipe-extension 4 2 2
+at-four = record { half-width = refl; constant = inr (inl (refl, refl)); extends = extends-4; lawful = extension-laws (polynomial 2) (polynomial-laws 2 (lit≤ tt) (lit≤ tt)) 2 extends-4 }
+
+at-six : Recipe-extension 6 3 1
+at-six = record { half-width = refl; constant = inr (inr (inl (refl, refl))); extends = extends-6; lawful = extension-laws (polynomial 3) (polynomial-laws 3 (lit≤ tt) (lit≤ tt)) 1 extends-6 }
+
+at-eight : Recipe-extension 8 4 8
+at-eight = record { half-width = refl; constant = inr (inr (inr (refl, refl))); extends = extends-8; lawful = extension-laws (polynomial 4) (polynomial-laws 4 (lit≤ tt) (lit≤ tt)) 8 extends-8 }
+
+moved : (w h c w′ c′ : ℕ) → Recipe-extension w h c → h ≡ w / 2 → w′ ≡ w → c′ ≡ c → Recipe-extension w′ (w′ / 2) c′
+moved w h c w′ c′ r e p q =
+    subst (λ (x : ℕ). Recipe-extension w′ (w′ / 2) x) (sym q) (subst (λ (x : ℕ). Recipe-extension x (x / 2) c) (sym p) (subst (λ (x : ℕ). Recipe-extension w x c) e r))
+
+pub recipe-extends : (w c : ℕ) → Recipe-constant w c → Recipe-extension w (w / 2) c
+recipe-extends w c =
+    ⊎-elim (λ t. moved 2 1 1 w c at-two refl (t .0) (t .1))
+    (⊎-elim (λ t. moved 4 2 2 w c at-four refl (t .0) (t .1))
+    (⊎-elim (λ t. moved 6 3 1 w c at-six refl (t .0) (t .1)) (λ t. moved 8 4 8 w c at-eight refl (t .0) (t .1))))
+
+-- what `Extension::new` makes of them
+pub made : (w c : ℕ) (half : Polynomial) (r : Result (Extension Polynomial) Fault) → Recipe-width w → Recipe-constant w c → half .width ≡ w / 2 →
+    Makes (Unit {0} × Extends (polynomial (half .width)) c) (λ (x : Extension Polynomial). (x .base ≡ half) × (x .c ≡ c)) r →
+    Makes (Recipe-width w) (λ (x : Extension Polynomial). Recipe-extension w (x .base .width) (x .c)) r
+made w c half (Ok x) wide constant is-half h = (
+  wide,
+  subst (λ (n : ℕ). Recipe-extension w (x .base .width) n) (sym (h .1 .1))
+      (subst (λ (n : ℕ). Recipe-extension w n c) (sym (ap (λ (p : Polynomial). p .width) (h .1 .0) ∙ is-half)) (recipe-extends w c constant)),
+)
+made w c half (Err e) wide constant is-half h =
+    absurd (h .0 (tt, subst (λ (n : ℕ). Extends (polynomial n) c) (sym is-half) (recipe-extends w c constant .extends)))
