@@ -6,12 +6,13 @@ use lib.Dec.{lit≤}
 use Rattle.std.specs.declared.result.Result.{Result}
 use Rattle.std.specs.declared.result.Result.the-variants.{Ok, Err}
 use Rattle.words.specs.declared.fault.Fault.{Fault}
-use Rattle.field_laws.specs.Polynomials.{polynomial}
+use Rattle.field_laws.specs.Polynomials.{polynomial, times, double, gate}
 use Rattle.field_laws.specs.Extensions.{Extends}
 use Rattle.field_laws.proofs.PolynomialLaws.{polynomial-laws}
 use Rattle.field_laws.proofs.ExtensionLaws.{extension-laws}
-use Rattle.field_laws.proofs.Roots.{extends-2, extends-4, extends-6, extends-8}
-use Rattle.fields.specs.Answers.{Makes}
+use Rattle.field_laws.proofs.Roots.{extends-2, extends-4, extends-6, extends-8, not-by-one}
+use Rattle.fields.specs.Answers.{Makes, unlawful}
+use Rattle.fields.specs.Examples.{Examples}
 use Rattle.fields.specs.Recipe.{Recipe-constant, Recipe-width, Recipe-extension}
 use Rattle.fields.specs.declared.extension.Extension.{Extension}
 use Rattle.fields.specs.declared.polynomial.Polynomial.{Polynomial}
@@ -49,3 +50,12 @@ made w c half (Ok x) wide constant is-half h = (
 )
 made w c half (Err e) wide constant is-half h =
     absurd (h .0 (tt, subst (λ (n : ℕ). Extends (polynomial n) c) (sym is-half) (recipe-extends w c constant .extends)))
+
+pub examples : Examples
+unfolding times double gate
+examples = record { three = refl; eight = refl; extended = refl; refused = not-by-one }
+
+pub one-refused : (half : Polynomial) (r : Result (Extension Polynomial) Fault) → half .width ≡ 4 →
+    Makes (Unit {0} × Extends (polynomial (half .width)) 1) (λ (x : Extension Polynomial). (x .base ≡ half) × (x .c ≡ 1)) r → r ≡ Err unlawful
+one-refused half (Ok x) e h = absurd (not-by-one (subst (λ (n : ℕ). Extends (polynomial n) 1) e (h .0 .1)))
+one-refused half (Err f) e h = ap Err (h .1)
