@@ -2,6 +2,7 @@
 use mathlib.Core.Path.{_≡_, refl, sym, ap, _∙_, subst}
 use mathlib.Core.Logic.{_⊎_, inl, inr, ⊎-elim}
 use Prim.Native.Nat.{ℕ, _*_, _/_, _≤_}
+use native.Mathlib.Omega.{arith}
 use lib.Dec.{lit≤}
 use Rattle.std.specs.declared.result.Result.{Result}
 use Rattle.std.specs.declared.result.Result.the-variants.{Ok, Err}
@@ -39,23 +40,30 @@ recipe-extends w c =
     (⊎-elim (λ t. moved 4 2 2 w c at-four refl (t .0) (t .1))
     (⊎-elim (λ t. moved 6 3 1 w c at-six refl (t .0) (t .1)) (λ t. moved 8 4 8 w c at-eight refl (t .0) (t .1))))
 
--- what `Extension::new` makes of them
-pub made : (w c : ℕ) (half : Polynomial) (r : Result (Extension Polynomial) Fault) → Recipe-width w → Recipe-constant w c → half .width ≡ w / 2 →
-    Makes (Unit {0} × Extends (polynomial (half .width)) c) (λ (x : Extension Polynomial). (x .base ≡ half) × (x .c ≡ c)) r →
+-- what the makers make of them
+pub made : (w c : ℕ) (r : Result (Extension Polynomial) Fault) → Recipe-width w → Recipe-constant w c →
+    (1 ≤ w / 2 → w / 2 ≤ 8 → Makes (Extends (polynomial (w / 2)) c) (λ (x : Extension Polynomial). (x .base .width ≡ w / 2) × (x .c ≡ c)) r) →
     Makes (Recipe-width w) (λ (x : Extension Polynomial). Recipe-extension w (x .base .width) (x .c)) r
-made w c half (Ok x) wide constant is-half h = (
-  wide,
-  subst (λ (n : ℕ). Recipe-extension w (x .base .width) n) (sym (h .1 .1))
-      (subst (λ (n : ℕ). Recipe-extension w n c) (sym (ap (λ (p : Polynomial). p .width) (h .1 .0) ∙ is-half)) (recipe-extends w c constant)),
-)
-made w c half (Err e) wide constant is-half h =
-    absurd (h .0 (tt, subst (λ (n : ℕ). Extends (polynomial n) c) (sym is-half) (recipe-extends w c constant .extends)))
+made w c r wide constant makes = by r (makes (omega arith) (omega arith))
+  where
+    by : (r : Result (Extension Polynomial) Fault) →
+        Makes (Extends (polynomial (w / 2)) c) (λ (x : Extension Polynomial). (x .base .width ≡ w / 2) × (x .c ≡ c)) r →
+        Makes (Recipe-width w) (λ (x : Extension Polynomial). Recipe-extension w (x .base .width) (x .c)) r
+    by (Ok x) h = (
+      wide,
+      subst (λ (n : ℕ). Recipe-extension w (x .base .width) n) (sym (h .1 .1))
+          (subst (λ (n : ℕ). Recipe-extension w n c) (sym (h .1 .0)) (recipe-extends w c constant)),
+    )
+    by (Err e) h = absurd (h .0 (recipe-extends w c constant .extends))
 
 pub examples : Examples
 unfolding times double gate
 examples = record { three = refl; eight = refl; extended = refl; refused = not-by-one }
 
-pub one-refused : (half : Polynomial) (r : Result (Extension Polynomial) Fault) → half .width ≡ 4 →
-    Makes (Unit {0} × Extends (polynomial (half .width)) 1) (λ (x : Extension Polynomial). (x .base ≡ half) × (x .c ≡ 1)) r → r ≡ Err unlawful
-one-refused half (Ok x) e h = absurd (not-by-one (subst (λ (n : ℕ). Extends (polynomial n) 1) e (h .0 .1)))
-one-refused half (Err f) e h = ap Err (h .1)
+pub one-refused : (r : Result (Extension Polynomial) Fault) →
+    (1 ≤ 4 → 4 ≤ 8 → Makes (Extends (polynomial 4) 1) (λ (x : Extension Polynomial). (x .base .width ≡ 4) × (x .c ≡ 1)) r) → r ≡ Err unlawful
+one-refused r makes = by r (makes (lit≤ tt) (lit≤ tt))
+  where
+    by : (r : Result (Extension Polynomial) Fault) → Makes (Extends (polynomial 4) 1) (λ (x : Extension Polynomial). (x .base .width ≡ 4) × (x .c ≡ 1)) r → r ≡ Err unlawful
+    by (Ok x) h = absurd (not-by-one (h .0))
+    by (Err f) h = ap Err (h .1)

@@ -2,7 +2,7 @@
 ghost use mathlib.Core.List.{[], _∷_};
 ghost use mathlib.Core.Path.{_≡_};
 ghost use Prim.Native.Nat.{ℕ, _/_, _^_, _≤_};
-ghost use Rattle.field_laws.specs.Extensions.{extension};
+ghost use Rattle.field_laws.specs.Extensions.{Extends, extension};
 ghost use Rattle.field_laws.specs.Polynomials.{polynomial};
 ghost use Rattle.std.specs.declared.result.Result.the-variants.{Ok, Err};
 ghost use Rattle.fields.specs.Answers.{Makes, of-two, unlawful};
@@ -29,13 +29,20 @@ fn constant(width: u8) -> Result<u8, Fault>
     }
 }
 
+/// The extension of the polynomial field of width m.
+fn extension_over(m: u8, c: u8) -> Result<Extension<Polynomial>, Fault>
+    ensures { λ r. ⌜ (1 ≤ m → m ≤ 8 → Makes (Extends (polynomial m) c) (λ (x : Extension Polynomial). (x .base .width ≡ m) × (x .c ≡ c)) r) ⌝ }
+{
+    let field = Polynomial::new(m)?;
+    Extension::new(field, c)
+}
+
 /// The extension of a width that a recipe may name, over the polynomial field of half the width; any other width gives 13.
 pub fn recipe_extension(width: u8) -> Result<Extension<Polynomial>, Fault>
     ensures { λ r. ⌜ Makes (Recipe-width width) (λ (x : Extension Polynomial). Recipe-extension width (x .base .width) (x .c)) r ⌝ }
 {
     let c = constant(width)?;
-    let half = Polynomial::new(width / 2)?;
-    Extension::new(half, c)
+    extension_over(width / 2, c)
 }
 
 /// A product in the polynomial field of width m.
@@ -76,6 +83,5 @@ pub fn examples() -> Result<[u8; 3], Fault>
 pub fn refused_example() -> Result<Extension<Polynomial>, Fault>
     ensures { λ r. ⌜ r ≡ Err unlawful ⌝ }
 {
-    let field = Polynomial::new(4)?;
-    Extension::new(field, 1)
+    extension_over(4, 1)
 }
