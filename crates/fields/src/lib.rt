@@ -5,4 +5,6 @@ pub mod field;
 pub mod polynomial;
 mod refusals;
 mod tables;
+#[cfg(test)]
+mod tests;
 pub mod worked;

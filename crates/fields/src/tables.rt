@@ -405,7 +405,7 @@ const LOGS: [u8; 512] = [
     237,
     49,
     197,
-    254,
+    254, // the log of 0x8E at width 8
     24,
     227,
     165,
@@ -1289,7 +1289,7 @@ const ANTILOGS: [u8; 1024] = [
     216,
     173,
     71,
-    142,
+    142, // 2 to the power of 254 at width 8
     1,
     2,
     4,
