@@ -1,19 +1,19 @@
 -- The extension of any field that keeps the laws keeps them too. Assumes nothing.
-use mathlib.Core.Path.{_≡_, refl, sym, ap, ap₂, _∙_, subst}
-use mathlib.Core.List.{List, [], _∷_}
-use mathlib.Core.Logic.{_≢_, _⊎_, ⊎-elim}
-use Prim.Native.Nat.{ℕ, zero, suc, _+_, _*_, _/_, _%_, _^_, _≤_, _<_}
+use mathlib.Core.Path.{_≡_, sym, ap, ap₂, _∙_}
+use mathlib.Core.List.{[], _∷_}
+use mathlib.Core.Logic.{_≢_}
+use Prim.Native.Nat.{ℕ, zero, _+_, _*_, _/_, _%_, _<_}
 use native.Mathlib.Omega.{arith}
 use lib.Pow.{pow-pos}
 use Rattle.std.proofs.shelf.Bits.{pow-below}
-use Rattle.std.specs.declared.option.Option.the-variants.{Some, None}
+use Rattle.std.specs.declared.option.Option.the-variants.{Some}
 use Rattle.algebra.specs.Field.{Ring, Field}
 use Rattle.algebra.specs.Ring.{_⊕_, _⊗_, 𝟙, 𝟘}
 use Rattle.algebra.proofs.Ring.{by-ring, low, high, low-assoc, high-assoc}
-use Rattle.algebra.proofs.Field.{mul-zero, add-zero, mul-one, other-zero, same-from-zero}
+use Rattle.algebra.proofs.Field.{mul-zero, add-zero, other-zero, same-from-zero}
 use Rattle.field_laws.specs.Fields.{Field-model, Field-laws, size}
-use Rattle.field_laws.specs.Extensions.{Extends, joined, joined-reciprocal, norm, extension}
-use Rattle.field_laws.proofs.Elements.{Element, element-path, zero-of, one-of, ring-of, field-of}
+use Rattle.field_laws.specs.Extensions.{Extends, joined-reciprocal, extension}
+use Rattle.field_laws.proofs.Elements.{Element, element-path, ring-of, field-of}
 use Rattle.field_laws.proofs.Pairs.{Pair, number, pair, number-below, pair-number, number-pair, low-is, high-is}
 
 module _ (f : Field-model) (laws : Field-laws f) (c : ℕ) (extends : Extends f c) where

@@ -1,14 +1,13 @@
 -- The tables hold what they should: antt computes each entry once, for all widths. Assumes nothing.
 use mathlib.Core.Path.{_≡_, refl, sym, ap, ap₂, _∙_, subst}
-use mathlib.Core.Bool.{Bool, true, false, _&&_}
-use Prim.Native.Nat.{ℕ, zero, suc, _+_, _-_, _*_, _^_, _/_, _≤_, _<_}
+use mathlib.Core.Bool.{Bool, _&&_}
+use Prim.Native.Nat.{ℕ, zero, suc, _+_, _-_, _*_, _^_, _≤_, _<_}
 use native.Mathlib.Nat.{add-zero, add-suc}
 use native.Mathlib.Omega.{arith}
 use lib.Dec.{T, eqb, ltb, eqb→eq, ltb→lt}
 use lib.ListN.{getD}
 use Rattle.field_laws.specs.Polynomials.{gate, double, times}
-use Rattle.field_laws.specs.Tables.{logs, antilogs}
-use lib.Pow.{pow-mono}
+use Rattle.field_laws.proofs.Tables.{logs, antilogs}
 use Rattle.std.proofs.shelf.Bits.{pow-below}
 use Rattle.field_laws.proofs.Everywhere.{every, at, both, each-width}
 use Rattle.field_laws.proofs.Products.{double-below, times-one, times-double}

@@ -1,3 +1,4 @@
+pub mod Tables
 pub mod Everywhere
 pub mod Linear
 pub mod Products

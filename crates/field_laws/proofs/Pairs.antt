@@ -1,13 +1,12 @@
 -- The numbers of an extension are pairs of elements below: a + q·b is (a, b). Assumes nothing.
-use mathlib.Core.Path.{_≡_, refl, sym, ap, ap₂, _∙_, subst}
-use Prim.Native.Nat.{ℕ, zero, suc, _+_, _*_, _/_, _%_, _^_, _≤_, _<_}
-use native.Mathlib.Nat.{mul-comm, two-mul, add-comm, mul-zero, add-zero}
-use native.Mathlib.Omega.{arith}
+use mathlib.Core.Path.{_≡_, sym, ap, ap₂, _∙_, subst}
+use Prim.Native.Nat.{ℕ, _+_, _*_, _/_, _%_, _^_, _<_}
+use native.Mathlib.Nat.{mul-comm, two-mul, add-comm}
 use lib.Pow.{pow-pos, pow-add}
 use Rattle.std.proofs.shelf.Bits.{div-below, mod-below, mul-add-lt, div-mul-add, mod-mul-add, div-add-mod'}
-use Rattle.field_laws.specs.Fields.{Field-model, Field-laws, size}
+use Rattle.field_laws.specs.Fields.{Field-model, size}
 use Rattle.field_laws.specs.Extensions.{joined, extension}
-use Rattle.field_laws.proofs.Elements.{Element, element-path, zero-of, one-of}
+use Rattle.field_laws.proofs.Elements.{Element, element-path}
 
 module _ (f : Field-model) (c : ℕ) where
   pub square-size : size (extension f c) ≡ size f * size f

@@ -1,16 +1,15 @@
 -- The polynomial field of each width from 1 to 8 keeps the laws. Assumes nothing.
-use mathlib.Core.Path.{_≡_, refl, sym, ap, ap₂, _∙_, subst}
-use mathlib.Core.Bool.{Bool, true, false, true≢false, cond}
+use mathlib.Core.Path.{_≡_, refl, sym, ap, _∙_}
+use mathlib.Core.Bool.{Bool, true, false, true≢false}
 use mathlib.Core.Logic.{⊎-elim}
-use Prim.Native.Nat.{ℕ, zero, suc, _+_, _-_, _*_, _^_, _≤_, _<_}
+use Prim.Native.Nat.{ℕ, zero, suc, _-_, _^_, _≤_, _<_}
 use native.Mathlib.Omega.{arith}
-use lib.Bits.{bitXor, xor-lt, xor-comm, xor-assoc, xor-self, xor-zero-r}
+use lib.Bits.{xor-lt, xor-comm, xor-assoc, xor-self, xor-zero-r}
 use lib.Dec.{eqb}
 use Rattle.std.proofs.shelf.Bits.{pow-below}
-use Rattle.std.proofs.shelf.Tests.{eqb-true, eq-eqb, cases-eq, cases-bool, cond-true, cond-false}
-use Rattle.std.specs.declared.option.Option.{Option}
+use Rattle.std.proofs.shelf.Tests.{eqb-true, eq-eqb, cases-bool, cond-true, cond-false}
 use Rattle.std.specs.declared.option.Option.the-variants.{Some, None}
-use Rattle.field_laws.specs.Fields.{Field-model, Field-laws, size}
+use Rattle.field_laws.specs.Fields.{Field-laws}
 use Rattle.field_laws.specs.Polynomials.{times, seek, polynomial}
 use Rattle.field_laws.proofs.Linear.{at-zero, times-adds, times-adds-bits}
 use Rattle.field_laws.proofs.Products.{times-below, times-one, times-comm, times-assoc}

@@ -1,18 +1,15 @@
 -- Products of the polynomial fields, of width 1 to 8. Commutativity and associativity hold on powers of two, which antt computes
 -- for all widths at once, so they hold everywhere. Assumes nothing.
-use mathlib.Core.Path.{_≡_, refl, sym, ap, _∙_, subst}
-use mathlib.Core.Bool.{Bool, true, false, _&&_}
-use Prim.Native.Nat.{ℕ, zero, suc, _+_, _-_, _*_, _^_, _/_, _≤_, _<_}
+use mathlib.Core.Path.{_≡_, refl, ap, _∙_}
+use mathlib.Core.Bool.{Bool}
+use Prim.Native.Nat.{ℕ, zero, suc, _^_, _/_, _≤_, _<_}
 use native.Mathlib.Nat.{lt-of-le-of-lt}
-use native.Mathlib.Omega.{arith}
-use lib.Bits.{bitXor, xor-lt}
+use lib.Bits.{xor-lt}
 use lib.Dec.{T, eqb, ltb, eqb→eq, ltb→lt}
-use lib.ListN.{getD}
 use lib.Pow.{pow-pos}
 use Rattle.field_laws.specs.Polynomials.{gate, double, times}
-use Rattle.field_laws.specs.Tables.{logs, antilogs}
 use Rattle.field_laws.proofs.Everywhere.{every, at, each-width}
-use Rattle.field_laws.proofs.Linear.{Additive, agree, bounded, gate-le, double-adds, times-adds, times-adds-bits}
+use Rattle.field_laws.proofs.Linear.{agree, bounded, gate-le, double-adds, times-adds, times-adds-bits}
 
 -- on powers of two, by computing
 

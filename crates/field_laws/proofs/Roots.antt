@@ -1,7 +1,7 @@
 -- Which elements of small polynomial fields extend them: each is tried by computing. Assumes nothing.
-use mathlib.Core.Path.{_≡_, refl, ap, sym, _∙_, subst}
+use mathlib.Core.Path.{refl, subst}
 use mathlib.Core.Bool.{Bool, true, false, not}
-use Prim.Native.Nat.{ℕ, _^_, _<_, _≤_}
+use Prim.Native.Nat.{ℕ}
 use lib.Dec.{T, eqb, eqb-refl, lit<, lit≤}
 use Rattle.field_laws.specs.Fields.{Field-model, size}
 use Rattle.field_laws.specs.Polynomials.{polynomial, times, double, gate}

@@ -1,5 +1,5 @@
 -- What a call on elements of a field answers, and the two parts of an extension's number. Assumes nothing.
-use mathlib.Core.Path.{_≡_, refl, sym, ap, _∙_, subst}
+use mathlib.Core.Path.{_≡_, sym, ap, _∙_, subst}
 use Prim.Native.Nat.{ℕ, _*_, _/_, _%_, _^_, _<_}
 use lib.Dec.{ltb}
 use native.Mathlib.Omega.{arith}

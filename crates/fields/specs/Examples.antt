@@ -1,6 +1,5 @@
 -- Worked examples. Assumes nothing.
 use mathlib.Core.Path.{_≡_}
-use Prim.Native.Nat.{ℕ}
 use Rattle.field_laws.specs.Polynomials.{polynomial}
 use Rattle.field_laws.specs.Extensions.{Extends, extension}
 

@@ -12,13 +12,13 @@ use words::fault::Fault;
 
 /// low + high·y
 #[derive(Clone, Copy)]
-pub struct Parts {
+pub(crate) struct Parts {
     pub low: u8,
     pub high: u8,
 }
 
 /// The width of the field below; 13 if it is above 4.
-pub fn narrow<F: Field>(field: &F) -> Result<u8, Fault>
+pub(crate) fn narrow<F: Field>(field: &F) -> Result<u8, Fault>
     ensures { λ r. ⌜ Narrow (sound (now (field .entry))) (model (now (field .entry))) r ⌝ }
 {
     let width = field.width();
@@ -29,7 +29,7 @@ pub fn narrow<F: Field>(field: &F) -> Result<u8, Fault>
 }
 
 /// How many elements the field below has.
-pub fn size_below(width: u8) -> u8
+pub(crate) fn size_below(width: u8) -> u8
     requires { ⌜ width ≤ 4 ⌝ }
     ensures { λ r. ⌜ r ≡ 2 ^ width ⌝ }
 {
@@ -37,7 +37,7 @@ pub fn size_below(width: u8) -> u8
 }
 
 /// How many elements the extension has.
-pub fn size_above(width: u8) -> usize
+pub(crate) fn size_above(width: u8) -> usize
     requires { ⌜ width ≤ 4 ⌝ }
     ensures { λ r. ⌜ r ≡ 2 ^ (2 * width) ⌝ }
 {
@@ -45,7 +45,7 @@ pub fn size_above(width: u8) -> usize
 }
 
 /// The two parts of an element.
-pub fn split(width: u8, x: u8) -> Parts
+pub(crate) fn split(width: u8, x: u8) -> Parts
     requires { ⌜ width ≤ 4 ⌝ }
     ensures { λ r. ⌜ (r .low ≡ x % 2 ^ width) × (r .high ≡ x / 2 ^ width) ⌝ }
     ensures { λ r. ⌜ (r .low < 2 ^ width) × (x < 2 ^ (2 * width) → r .high < 2 ^ width) ⌝ }
@@ -58,7 +58,7 @@ pub fn split(width: u8, x: u8) -> Parts
 }
 
 /// The element of these parts; 13 where one is no element below.
-pub fn join(width: u8, low: u8, high: u8) -> Result<u8, Fault>
+pub(crate) fn join(width: u8, low: u8, high: u8) -> Result<u8, Fault>
     requires { ⌜ width ≤ 4 ⌝ }
     ensures { λ r. ⌜ (low < 2 ^ width → high < 2 ^ width → r ≡ Ok (low + 2 ^ width * high)) ⌝ }
 {
@@ -70,7 +70,7 @@ pub fn join(width: u8, low: u8, high: u8) -> Result<u8, Fault>
 }
 
 /// e·e + e
-pub fn trace<F: Field>(field: &F, e: u8) -> Result<u8, Fault>
+pub(crate) fn trace<F: Field>(field: &F, e: u8) -> Result<u8, Fault>
     ensures { λ r. ⌜ Trace (sound (now (field .entry))) (model (now (field .entry))) e r ⌝ }
 {
     let square = field.product(e, e)?;
@@ -78,7 +78,7 @@ pub fn trace<F: Field>(field: &F, e: u8) -> Result<u8, Fault>
 }
 
 /// Ok if no element e has e·e + e = c; else 13.
-pub fn no_root<F: Field>(field: &F, size: u8, c: u8) -> Result<(), Fault>
+pub(crate) fn no_root<F: Field>(field: &F, size: u8, c: u8) -> Result<(), Fault>
     requires { ⌜ sound (now field) ⌝ }
     requires { ⌜ size ≡ size-of (model (now field)) ⌝ }
     ensures { λ r. ⌜ Checks (Rootless (model (now (field .entry))) c) r ⌝ }
@@ -92,7 +92,7 @@ pub fn no_root<F: Field>(field: &F, size: u8, c: u8) -> Result<(), Fault>
 }
 
 /// a·u + b·v
-pub fn two_products<F: Field>(field: &F, a: u8, u: u8, b: u8, v: u8) -> Result<u8, Fault>
+pub(crate) fn two_products<F: Field>(field: &F, a: u8, u: u8, b: u8, v: u8) -> Result<u8, Fault>
     ensures { λ r. ⌜ Two-products (sound (now (field .entry))) (model (now (field .entry))) a u b v r ⌝ }
 {
     let au = field.product(a, u)?;
@@ -101,7 +101,7 @@ pub fn two_products<F: Field>(field: &F, a: u8, u: u8, b: u8, v: u8) -> Result<u
 }
 
 /// a·(a + b) + c·b·b, for a + b·y.
-pub fn norm<F: Field>(field: &F, c: u8, x: Parts) -> Result<u8, Fault>
+pub(crate) fn norm<F: Field>(field: &F, c: u8, x: Parts) -> Result<u8, Fault>
     ensures { λ r. ⌜ Norm (sound (now (field .entry))) (model (now (field .entry))) c (x .low) (x .high) r ⌝ }
 {
     let sum = field.sum(x.low, x.high)?;
@@ -110,7 +110,7 @@ pub fn norm<F: Field>(field: &F, c: u8, x: Parts) -> Result<u8, Fault>
 }
 
 /// The parts of the product of `x` and `y`.
-pub fn product_parts<F: Field>(field: &F, c: u8, x: Parts, y: Parts) -> Result<Parts, Fault>
+pub(crate) fn product_parts<F: Field>(field: &F, c: u8, x: Parts, y: Parts) -> Result<Parts, Fault>
     ensures { λ r. ⌜ Product-parts (sound (now (field .entry))) (model (now (field .entry))) c (x .low) (x .high) (y .low) (y .high) r ⌝ }
 {
     let squared = field.product(x.high, y.high)?;
@@ -121,7 +121,7 @@ pub fn product_parts<F: Field>(field: &F, c: u8, x: Parts, y: Parts) -> Result<P
 }
 
 /// The parts of i·((a + b) + b·y), for a + b·y.
-pub fn scaled_parts<F: Field>(field: &F, i: u8, x: Parts) -> Result<Parts, Fault>
+pub(crate) fn scaled_parts<F: Field>(field: &F, i: u8, x: Parts) -> Result<Parts, Fault>
     ensures { λ r. ⌜ Scaled-parts (sound (now (field .entry))) (model (now (field .entry))) i (x .low) (x .high) r ⌝ }
 {
     let sum = field.sum(x.low, x.high)?;
@@ -131,7 +131,7 @@ pub fn scaled_parts<F: Field>(field: &F, i: u8, x: Parts) -> Result<Parts, Fault
 }
 
 /// i·((a + b) + b·y), for a + b·y.
-pub fn scaled<F: Field>(field: &F, i: u8, width: u8, x: Parts) -> Result<u8, Fault>
+pub(crate) fn scaled<F: Field>(field: &F, i: u8, width: u8, x: Parts) -> Result<u8, Fault>
     requires { ⌜ width ≤ 4 ⌝ }
     ensures { λ r. ⌜ Scaled (sound (now (field .entry))) (model (now (field .entry))) i width (x .low) (x .high) r ⌝ }
 {
@@ -140,7 +140,7 @@ pub fn scaled<F: Field>(field: &F, i: u8, width: u8, x: Parts) -> Result<u8, Fau
 }
 
 /// The sum of two elements of the extension.
-pub fn sum_of<F: Field>(field: &F, width: u8, a: u8, b: u8) -> Result<u8, Fault>
+pub(crate) fn sum_of<F: Field>(field: &F, width: u8, a: u8, b: u8) -> Result<u8, Fault>
     requires { ⌜ width ≤ 4 ⌝ }
     ensures { λ r. ⌜ Sum-of (sound (now (field .entry))) (model (now (field .entry))) width a b r ⌝ }
 {
@@ -152,7 +152,7 @@ pub fn sum_of<F: Field>(field: &F, width: u8, a: u8, b: u8) -> Result<u8, Fault>
 }
 
 /// The product of two elements of the extension.
-pub fn product_of<F: Field>(field: &F, c: u8, width: u8, a: u8, b: u8) -> Result<u8, Fault>
+pub(crate) fn product_of<F: Field>(field: &F, c: u8, width: u8, a: u8, b: u8) -> Result<u8, Fault>
     requires { ⌜ width ≤ 4 ⌝ }
     ensures { λ r. ⌜ Product-of (sound (now (field .entry))) (model (now (field .entry))) c width a b r ⌝ }
 {
@@ -163,7 +163,7 @@ pub fn product_of<F: Field>(field: &F, c: u8, width: u8, a: u8, b: u8) -> Result
 }
 
 /// The inverse of an element of the extension, absent for zero.
-pub fn inverse_of<F: Field>(field: &F, c: u8, width: u8, a: u8) -> Result<Option<u8>, Fault>
+pub(crate) fn inverse_of<F: Field>(field: &F, c: u8, width: u8, a: u8) -> Result<Option<u8>, Fault>
     requires { ⌜ width ≤ 4 ⌝ }
     ensures { λ r. ⌜ Inverse-of (sound (now (field .entry))) (model (now (field .entry))) c width a r ⌝ }
 {

@@ -7,14 +7,14 @@ use words::fault::Kind;
 use words::fault::Layer;
 
 /// No lawful field.
-pub fn no_field() -> Fault
+pub(crate) fn no_field() -> Fault
     ensures { λ r. ⌜ r ≡ unlawful ⌝ }
 {
     Fault::new(Kind::UnlawfulField, Layer::Field, 0)
 }
 
 /// Ok if the operand is one of `size` elements.
-pub fn element(size: usize, a: u8) -> Result<(), Fault>
+pub(crate) fn element(size: usize, a: u8) -> Result<(), Fault>
     ensures { λ r. ⌜ r ≡ of-one size a tt ⌝ }
 {
     if a as usize >= size {
@@ -24,7 +24,7 @@ pub fn element(size: usize, a: u8) -> Result<(), Fault>
 }
 
 /// Ok if both operands are among `size` elements; operand 0 is looked at first.
-pub fn elements(size: usize, a: u8, b: u8) -> Result<(), Fault>
+pub(crate) fn elements(size: usize, a: u8, b: u8) -> Result<(), Fault>
     ensures { λ r. ⌜ r ≡ of-two size a b tt ⌝ }
 {
     element(size, a)?;

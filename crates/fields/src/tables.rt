@@ -3,7 +3,7 @@ ghost use mathlib.Core.Path.{_≡_};
 ghost use Prim.Native.Nat.{_+_, _*_, _^_, _≤_, _<_};
 ghost use lib.ListN.{getD};
 ghost use Rattle.field_laws.specs.Polynomials.{polynomial, times};
-ghost use Rattle.field_laws.specs.Tables.{logs, antilogs};
+ghost use Rattle.field_laws.proofs.Tables.{logs, antilogs};
 
 /// At 2^m + a: how often 1 is doubled to get a.
 const LOGS: [u8; 512] = [
@@ -1568,7 +1568,7 @@ fn antilog(width: u8, i: usize) -> u8
 }
 
 /// The product of two elements: the logs add up.
-pub fn multiply(width: u8, a: u8, b: u8) -> u8
+pub(crate) fn multiply(width: u8, a: u8, b: u8) -> u8
     requires { ⌜ (1 ≤ width) × (width ≤ 8) ⌝ }
     requires { ⌜ (a < 2 ^ width) × (b < 2 ^ width) ⌝ }
     ensures { λ r. ⌜ r ≡ times width width a b ⌝ }
@@ -1580,7 +1580,7 @@ pub fn multiply(width: u8, a: u8, b: u8) -> u8
 }
 
 /// The inverse of an element: the two logs make up one whole round.
-pub fn invert(width: u8, a: u8) -> Option<u8>
+pub(crate) fn invert(width: u8, a: u8) -> Option<u8>
     requires { ⌜ (1 ≤ width) × (width ≤ 8) ⌝ }
     requires { ⌜ a < 2 ^ width ⌝ }
     ensures { λ r. ⌜ r ≡ polynomial width .reciprocal a ⌝ }

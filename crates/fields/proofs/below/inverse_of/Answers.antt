@@ -1,10 +1,10 @@
-use mathlib.Core.Path.{_≡_, sym, ap, ap₂, _∙_, subst, subst₂}
-use Prim.Native.Nat.{ℕ, _+_, _*_, _%_, _/_, _^_, _<_}
+use mathlib.Core.Path.{sym, ap, ap₂, _∙_}
+use Prim.Native.Nat.{ℕ}
 use Rattle.std.specs.declared.option.Option.the-variants.{Some}
 use Rattle.std.specs.declared.result.Result.the-variants.{Ok}
-use Rattle.field_laws.specs.Fields.{Field-model, Field-laws, size}
-use Rattle.field_laws.specs.Extensions.{joined, joined-reciprocal, norm}
-use Rattle.fields.proofs.Steps.{same-value, never, Part-of, part-of, inverse-found}
+use Rattle.field_laws.specs.Fields.{Field-model, Field-laws}
+use Rattle.field_laws.specs.Extensions.{joined-reciprocal, norm}
+use Rattle.fields.proofs.Steps.{same-value, never, part-of, inverse-found}
 use Rattle.fields.proofs.below.inverse_of.Needs as need
 
 pub returns-in-Break-inverse : need.returns-in-Break-inverse
