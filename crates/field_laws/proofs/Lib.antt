@@ -1,0 +1,12 @@
+pub mod Tables
+pub mod Everywhere
+pub mod Linear
+pub mod Products
+pub mod Generator
+pub mod PolynomialLaws
+pub mod Widths
+pub mod Elements
+pub mod Pairs
+pub mod ExtensionLaws
+pub mod Reciprocals
+pub mod Roots

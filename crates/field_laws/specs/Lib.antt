@@ -1,0 +1,3 @@
+pub mod Fields
+pub mod Polynomials
+pub mod Extensions

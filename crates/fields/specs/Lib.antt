@@ -1,0 +1,4 @@
+pub mod Answers
+pub mod Below
+pub mod Examples
+pub mod Recipe
