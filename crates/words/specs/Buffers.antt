@@ -23,6 +23,13 @@ pub record Given : Type 0 where
   pub wanted : ℕ
   pub below : ℕ
 
+-- a buffer whose values lie below a bound, and one that is only written to, whose values are not looked at
+abbrev pub values-below : ℕ → ℕ → List ℕ → Given
+values-below bound n xs = record { content = xs; wanted = n; below = bound }
+
+abbrev pub written-to : ℕ → List ℕ → Given
+written-to n xs = record { content = xs; wanted = n; below = 256 }
+
 abbrev pub given : Buffer → Given
 given b = record { content = now (b .content); wanted = b .wanted; below = b .below }
 

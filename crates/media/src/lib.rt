@@ -1,0 +1,4 @@
+// Media: where pages are kept, cell by cell.
+mod checks;
+pub mod grid;
+pub mod medium;
