@@ -4,6 +4,10 @@ ghost use mathlib.Core.List.{map};
 ghost use Prim.Native.Nat.{_<_};
 ghost use lib.ListN.{length};
 ghost use denote.Ref.{name, now};
+ghost use Rattle.std.specs.Results.{Cases};
+ghost use Rattle.words.specs.declared.fault.Kind.the-variants.{UnfitMedium};
+ghost use Rattle.words.specs.declared.fault.Layer.the-variants.{Medium as the-medium};
+ghost use Rattle.words.specs.Faults.{fault};
 ghost use Rattle.media_laws.specs.Grid.{grid, Grid-fits, page-bytes, put-byte, put-bytes, state-of};
 ghost use Rattle.media_laws.specs.Model.{value-of, mark-of};
 ghost use Rattle.media_laws.proofs.Grids.{grid-lawful};
@@ -84,7 +88,10 @@ pub impl Medium for Grid<'_> as GridMedium {
 
     ghost lawful = { λ g fits. grid-lawful (now (g .bytes)) (g .pages) (g .breadth) fits };
 
-    fn check(&self) -> Result<(), Fault> {
+    fn check(&self) -> Result<(), Fault>
+        ensures sound { λ r. ⌜ Cases r (λ _. Grid-fits (now (now (self .entry) .bytes)) (now (self .entry) .pages) (now (self .entry) .breadth)) (λ _. Grid-fits (now (now (self .entry) .bytes)) (now (self .entry) .pages) (now (self .entry) .breadth) → ⊥) ⌝ }
+        ensures fault { λ r. ⌜ Cases r (λ _. Unit {0}) (λ f. f ≡ fault UnfitMedium the-medium (length (now (now (self .entry) .bytes)))) ⌝ }
+    {
         let len = self.bytes.len();
         if in_range(self.pages, self.breadth) && len == self.pages * self.breadth {
             Ok(())

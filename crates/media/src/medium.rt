@@ -23,7 +23,7 @@ pub trait Medium {
 
     /// Refuses a medium that is not sound.
     fn check(&self) -> Result<(), Fault>
-        ensures { λ r. ⌜ Cases r (λ _. sound (now (self .entry))) (λ _. sound (now (self .entry)) → ⊥) ⌝ };
+        ensures sound { λ r. ⌜ Cases r (λ _. sound (now (self .entry))) (λ _. sound (now (self .entry)) → ⊥) ⌝ };
 
     /// P, the number of pages.
     fn pages(&self) -> usize

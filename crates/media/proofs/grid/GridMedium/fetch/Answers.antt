@@ -14,13 +14,13 @@ show-page-requires c κs =
     let self = c .args .self .now in
     let page = page-passed (c .args .page) (self .pages) _ (checked-ok _ (c .in-Continue-check-page .ensures tt)) in
     let given = fits-from-none Medium (written-to (self .breadth) (c .args .cells .now) ∷ written-to (self .breadth) (c .args .marks .now) ∷ []) (checked-ok _ (c .in-Continue-check-fetch .ensures tt)) in
-    (c .in-Continue-check .ensures tt, (page, (given .0 .0, given .1 .0 .0)))
+    (c .in-Continue-check .ensures tt .sound, (page, (given .0 .0, given .1 .0 .0)))
 
 pub returns : need.returns
 returns c =
     let self = c .args .self .now in
     let model = grid (self .bytes .now) (self .pages) (self .breadth) in
-    let fits = c .in-Continue-check .ensures tt in
+    let fits = c .in-Continue-check .ensures tt .sound in
     let page-ok = checked-ok _ (c .in-Continue-check-page .ensures tt) in
     let fetch-ok = checked-ok _ (c .in-Continue-check-fetch .ensures tt) in
     record {

@@ -20,7 +20,7 @@ use Rattle.media.proofs.grid.GridMedium.put.Needs as need
 pub part-store-end : need.part-store-end
 part-store-end c =
     let self = c .args .self .now in
-    let fits = c .in-Continue-check .ensures tt in
+    let fits = c .in-Continue-check .ensures tt .sound in
     let page = page-passed (c .args .page) (self .pages) _ (checked-ok _ (c .in-Continue-check-page .ensures tt)) in
     let within = page-within (self .bytes .now) (self .breadth) (self .pages) (fits .2) (c .args .page) page in
     search needs
@@ -33,7 +33,7 @@ returns c =
     let n = self .breadth in
     let cells = c .args .cells .now in
     let model = grid bytes (self .pages) n in
-    let fits = c .in-Continue-check .ensures tt in
+    let fits = c .in-Continue-check .ensures tt .sound in
     let page-ok = checked-ok _ (c .in-Continue-check-page .ensures tt) in
     let put-ok = checked-ok _ (c .in-Continue-check-put .ensures tt) in
     let page = page-passed p (self .pages) _ page-ok in

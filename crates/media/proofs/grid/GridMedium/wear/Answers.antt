@@ -14,7 +14,7 @@ use Rattle.media.proofs.grid.GridMedium.wear.Needs as need
 pub index-self-page : need.index-self-page
 index-self-page c =
     let self = c .args .self .now in
-    let fits = c .in-Continue-check .ensures tt in
+    let fits = c .in-Continue-check .ensures tt .sound in
     let page = page-passed (c .args .page) (self .pages) _ (checked-ok _ (c .in-Continue-check-page .ensures tt)) in
     let cell = cell-passed (c .args .cell) (self .breadth) (c .args .state) _ (checked-ok _ (c .in-Continue-check-cell .ensures tt)) in
     omega (arith, page-within (self .bytes .now) (self .breadth) (self .pages) (fits .2) (c .args .page) page, cell .0)
@@ -25,7 +25,7 @@ returns c =
     let bytes = self .bytes .now in
     let p = c .args .page in
     let model = grid bytes (self .pages) (self .breadth) in
-    let fits = c .in-Continue-check .ensures tt in
+    let fits = c .in-Continue-check .ensures tt .sound in
     let page-ok = checked-ok _ (c .in-Continue-check-page .ensures tt) in
     let cell-ok = checked-ok _ (c .in-Continue-check-cell .ensures tt) in
     let page = page-passed p (self .pages) _ page-ok in
