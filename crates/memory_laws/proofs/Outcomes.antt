@@ -46,6 +46,11 @@ page-there m p e = ltb-true p (m .pages) (passed (ltb p (m .pages)) _ e)
 abbrev pub Page-payload : Code-model → List ℕ → Type 0
 Page-payload c payload = (length payload ≡ page-bytes (c .message-len)) × All (λ b. b < 256) payload
 
+pub payload-passed : (m : Medium-model) (c : Code-model) (p : ℕ) (payload : List ℕ) → payload-refusal m c p payload ≡ None → (p < m .pages) × Page-payload c payload
+payload-passed m c p payload e =
+    let fit = fits-from-none Memory (written-to (page-bytes (c .message-len)) payload ∷ []) (none-right (page-refusal m p) _ e) in
+    (page-there m p (none-left (page-refusal m p) _ e), fit .0)
+
 -- accepted, with what then holds, or refused
 abbrev pub Outcome : {X : Type 0} → Result X Fault → Type 0 → Type 0 → Type 0
 Outcome r Accepted Refused = ((isOk r ≡ true) × Accepted) ⊎ ((isOk r ≡ false) × Refused)
@@ -59,8 +64,8 @@ module _ (m m′ : Medium-model) where
     where
       by : (due : Option Fault) → payload-refusal m c p payload ≡ due → options.Cases due ((r ≡ Ok (blanks (m′ .page p))) × Changed m m′ p (stored (m .page p) (recording c payload))) (λ f. (r ≡ Err (on-page f p)) × Unchanged m m′) → Outcome r (Write-accepted c p payload) (Unchanged m m′)
       by None e h =
-          let fit = fits-from-none Memory (written-to (page-bytes (c .message-len)) payload ∷ []) (none-right (page-refusal m p) _ e) in
-          inl (ap isOk (h .0), (page-there m p (none-left (page-refusal m p) _ e), (fit .0, h .1)))
+          let passed = payload-passed m c p payload e in
+          inl (ap isOk (h .0), (passed .0, (passed .1, h .1)))
       by (Some f) e h = inr (ap isOk (h .0), h .1)
 
   abbrev pub Patrol-accepted : Code-model → ℕ → Type 0

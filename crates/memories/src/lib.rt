@@ -1,0 +1,3 @@
+// Memories: a code joined to a medium, page by page.
+mod bits;
+pub mod pages;
