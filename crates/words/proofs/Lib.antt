@@ -1,3 +1,4 @@
+pub mod Distances
 pub mod Passes
 pub mod Places
 pub mod Rises

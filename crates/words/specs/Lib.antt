@@ -1,4 +1,5 @@
 pub mod Buffers
+pub mod Distance
 pub mod Faults
 pub mod Harm
 pub mod Texts

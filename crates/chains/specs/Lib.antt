@@ -1,0 +1,3 @@
+pub mod Model
+pub mod Refusals
+pub mod Promises

@@ -1,0 +1,3 @@
+// Chains: inner codes that are partitioned stage by stage, and the estimate of a stage's label from a reading.
+pub mod chain;
+mod checks;
