@@ -1,3 +1,5 @@
+pub mod Bits
+pub mod Even
 pub mod Model
-pub mod Refusals
 pub mod Promises
+pub mod Refusals

@@ -18,13 +18,13 @@ abbrev pub Stage : Chain-model → ℕ → Type 0
 Stage h i = (1 ≤ i) × (i ≤ h .stages)
 
 -- labels for the stages from stage i on, each below its own stage's bound
-abbrev pub Labels-from : Chain-model → ℕ → List ℕ → Type 0
-Labels-from h i [] = Unit {0}
-Labels-from h i (x ∷ xs) = (x < 2 ^ h .width i) × Labels-from h (suc i) xs
+abbrev pub Labels-from : (ℕ → ℕ) → ℕ → List ℕ → Type 0
+Labels-from width i [] = Unit {0}
+Labels-from width i (x ∷ xs) = (x < 2 ^ width i) × Labels-from width (suc i) xs
 
 -- a row has one label for each stage
 abbrev pub Row : Chain-model → List ℕ → Type 0
-Row h u = (length u ≡ h .stages) × Labels-from h 1 u
+Row h u = (length u ≡ h .stages) × Labels-from (h .width) 1 u
 
 -- what stands for stage i in a list that has an entry for each stage, as its label in a row
 abbrev pub at-stage : List ℕ → ℕ → ℕ

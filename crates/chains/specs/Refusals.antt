@@ -1,8 +1,10 @@
 -- What a chain's calls ask of what they are handed, and which refusal they give. Assumes nothing.
-use Prim.Native.Nat.{ℕ, suc, _-_, _^_}
+use Prim.Native.Nat.{ℕ, suc, _-_, _^_, _≤_}
+use mathlib.Core.Path.{_≡_}
 use mathlib.Core.Bool.{cond, _&&_}
 use mathlib.Core.List.{List, [], _∷_}
 use lib.Dec.{leb, ltb}
+use lib.ListN.{length}
 use Rattle.std.specs.declared.option.Option.{Option}
 use Rattle.std.specs.declared.option.Option.the-variants.{Some, None}
 use Rattle.words.specs.declared.fault.Fault.{Fault}
@@ -10,6 +12,7 @@ use Rattle.words.specs.declared.fault.Kind.the-variants.{TooLarge, OutsideKind,
 use Rattle.words.specs.declared.fault.Layer.the-variants.{Chain}
 use Rattle.words.specs.Faults.{fault}
 use Rattle.words.specs.Buffers.{Given, either, refusal}
+use Rattle.chains.specs.Model.{Labels-from, Cells}
 
 -- the refusal of numbers that are outside a chain's kind
 abbrev pub outside : Fault
@@ -40,3 +43,17 @@ estimate-refusal n stages width i labels cells marks =
     either (stage-refusal stages i)
     (either (refusal Chain (sized (i - 1) labels ∷ sized n cells ∷ sized n marks ∷ []))
     (either (large-label width 0 labels) (refusal Chain (binary n cells ∷ binary n marks ∷ []))))
+
+-- what neither refuses
+pub record Row-fits (n stages : ℕ) (width : ℕ → ℕ) (labels cells : List ℕ) : Type 0 where
+  pub many : length labels ≡ stages
+  pub each : Labels-from width 1 labels
+  pub room : length cells ≡ n
+
+pub record Reading-fits (n stages : ℕ) (width : ℕ → ℕ) (i : ℕ) (labels cells marks : List ℕ) : Type 0 where
+  pub low : 1 ≤ i
+  pub high : i ≤ stages
+  pub many : length labels ≡ i - 1
+  pub each : Labels-from width 1 labels
+  pub cells-fit : Cells n cells
+  pub marks-fit : Cells n marks
