@@ -2,6 +2,7 @@ pub mod Due
 pub mod EvenEstimates
 pub mod EvenWords
 pub mod Fits
+pub mod FromLaw
 pub mod Harms
 pub mod Labels
 pub mod Parity

@@ -1,4 +1,5 @@
 pub mod Bits
+pub mod Derived
 pub mod Even
 pub mod Model
 pub mod Promises
