@@ -7,3 +7,5 @@ pub mod Harms
 pub mod Labels
 pub mod Parity
 pub mod Spelling
+pub mod Tables
+pub mod Voting
