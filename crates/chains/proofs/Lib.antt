@@ -5,7 +5,9 @@ pub mod Fits
 pub mod FromLaw
 pub mod Harms
 pub mod Labels
+pub mod Laying
 pub mod Parity
+pub mod RowBits
 pub mod Spelling
 pub mod Tables
 pub mod Voting
