@@ -50,7 +50,7 @@ not-before i j u v agree ne = ⊎-elim early (λ late. omega arith) (cases-lt j 
     early h = absurd (ne (sym (getD-take (i - 1) u j 0 h) ∙ ap (λ w. getD w j 0) agree ∙ getD-take (i - 1) v j 0 h))
 
 -- labels that stand one after the other
-labels-append : (width : ℕ → ℕ) (xs ys : List ℕ) (i : ℕ) → Labels-from width i xs → Labels-from width (i + length xs) ys → Labels-from width i (xs ++ ys)
+pub labels-append : (width : ℕ → ℕ) (xs ys : List ℕ) (i : ℕ) → Labels-from width i xs → Labels-from width (i + length xs) ys → Labels-from width i (xs ++ ys)
 labels-append width [] ys i a b = let here : i + 0 ≡ i = omega arith in subst (λ (k : ℕ). Labels-from width k ys) here b
 labels-append width (x ∷ xs) ys i a b =
     let here : i + suc (length xs) ≡ suc i + length xs = omega arith in

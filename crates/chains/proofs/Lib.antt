@@ -6,6 +6,9 @@ pub mod FromLaw
 pub mod Harms
 pub mod Labels
 pub mod Laying
+pub mod Masks
+pub mod MullerLaw
+pub mod MullerWords
 pub mod Parity
 pub mod RowBits
 pub mod Spelling

@@ -25,7 +25,7 @@ fit-none [] = tt
 fit-none (w ∷ ws) = tt
 
 -- the widths from one stage on
-widths-more : (ws : List ℕ) (j : ℕ) → j < length ws → drop j ws ≡ at-stage ws (suc j) ∷ drop (suc j) ws
+pub widths-more : (ws : List ℕ) (j : ℕ) → j < length ws → drop j ws ≡ at-stage ws (suc j) ∷ drop (suc j) ws
 widths-more ws j h =
     let here : j ≡ suc j - 1 = omega arith in
     drop-more ws j 0 h ∙ ap₂ (λ k i. getD ws k 0 ∷ drop i ws) here (add-one j)

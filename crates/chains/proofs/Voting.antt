@@ -6,7 +6,7 @@ use Prim.Native.Nat.{ℕ, zero, suc, _+_, _*_, _%_, _<_, _≤_, min}
 use native.Mathlib.Nat.{add-mul}
 use native.Mathlib.Omega.{arith}
 use lib.Dec.{eqb, ltb}
-use lib.ListN.{length, replicate}
+use lib.ListN.{length, drop, replicate}
 use Rattle.std.specs.shelf.Lists.{All}
 use Rattle.std.proofs.shelf.Elements.{all-weaker}
 use Rattle.std.proofs.shelf.Lists.{length-replicate}
@@ -206,3 +206,19 @@ settles n (c ∷ cs) (b ∷ bs) y m good fy fm bits long near =
     let here : elected (c .checks) y m ≡ b = elects n b y m e (c .checks) (bits .0) fe fm all (good .2) (near .0) in
     ap (λ k. k ∷ settled cs (turned k c y) m) here
     ∙ ap (λ ks. b ∷ ks) (settles n cs bs (turned b c y) m (good .3) (turned-cells n b c y (good .0) fy) fm (bits .1) (omega arith) (near .1))
+
+pub length-settled : (cs : List Column) (y m : List ℕ) → length (settled cs y m) ≡ length cs
+length-settled [] y m = refl
+length-settled (c ∷ cs) y m = ap suc (length-settled cs (turned (elected (c .checks) y m) c y) m)
+
+elected-small : (sets : List (List ℕ)) (y m : List ℕ) → elected sets y m < 2
+elected-small sets y m = elim (ltb (votes 0 sets y m) (votes 1 sets y m)) as (λ t. cond t 1 0 < 2) [ true ↦ omega arith | false ↦ omega arith ]
+
+pub settled-small : (cs : List Column) (y m : List ℕ) → All (λ b. b < 2) (settled cs y m)
+settled-small [] y m = tt
+settled-small (c ∷ cs) y m = (elected-small (c .checks) y m, settled-small cs (turned (elected (c .checks) y m) c y) m)
+
+pub good-drop : (n k : ℕ) (cs : List Column) → Good n cs → Good n (drop k cs)
+good-drop n zero cs good = good
+good-drop n (suc k) [] good = good
+good-drop n (suc k) (c ∷ cs) good = good-drop n k cs (good .3)
