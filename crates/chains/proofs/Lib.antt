@@ -7,10 +7,12 @@ pub mod Harms
 pub mod Labels
 pub mod Laying
 pub mod Masks
+pub mod MullerColumns
 pub mod MullerLaw
+pub mod MullerSteps
+pub mod MullerTables
 pub mod MullerWords
 pub mod Parity
 pub mod RowBits
 pub mod Spelling
-pub mod Tables
 pub mod Voting

@@ -20,7 +20,7 @@ use Rattle.chains.specs.ReedMuller.{Muller-range, muller-widths, muller-word, 
 use Rattle.chains.proofs.Harms.{own-harm}
 use Rattle.chains.proofs.MullerWords.{word-cells, finds}
 use Rattle.chains.proofs.RowBits.{Fit, fit-from, cut, cut-row-bits}
-use Rattle.chains.proofs.Tables.{Muller-sizes, muller-sizes}
+use Rattle.chains.proofs.MullerColumns.{Muller-sizes, muller-sizes}
 
 -- marks at the places where two words differ
 unlike : List ℕ → List ℕ → List ℕ

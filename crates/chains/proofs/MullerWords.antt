@@ -22,7 +22,7 @@ use Rattle.chains.proofs.FromLaw.{labels-append}
 use Rattle.chains.proofs.Laying.{zeros-cells, harm-laid, laid-append, word-laid}
 use Rattle.chains.proofs.Parity.{total-append}
 use Rattle.chains.proofs.RowBits.{Fit, fit-from, from-fit, widths-more, row-bits-small, length-row-bits, row-bits-append, cut, length-cut, cut-fits, row-bits-cut}
-use Rattle.chains.proofs.Tables.{Muller-sizes, muller-good, muller-enough, muller-reach, muller-sizes}
+use Rattle.chains.proofs.MullerColumns.{Muller-sizes, muller-good, muller-enough, muller-reach, muller-sizes}
 use Rattle.chains.proofs.Voting.{laid-cells, settles, length-settled, settled-small, good-drop}
 
 total-split : (k : ℕ) (ws : List ℕ) → total (take k ws) + total (drop k ws) ≡ total ws

@@ -56,7 +56,7 @@ left-harm (x ∷ cells) [] = 0
 left-harm (x ∷ cells) (mark ∷ marks) = cond (eqb mark 0) (2 * x) 1 + left-harm cells marks
 
 -- the numbers that have no one outside s's ones, as a set: 2^p for each such p
-abbrev pub subsets : ℕ → ℕ
+unfoldable pub subsets : ℕ → ℕ
 subsets s = total (map (λ p. cond (inside p s) (2 ^ p) 0) (counted 0 16))
 
 -- a bit turns the cells that have all its ones. Its check sums are over the cells that have the same ones outside it

@@ -3,3 +3,5 @@ pub mod chain;
 mod checks;
 pub mod derived;
 pub mod even;
+pub mod reed_muller;
+mod tables;

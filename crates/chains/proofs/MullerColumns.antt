@@ -12,7 +12,7 @@ use Rattle.std.proofs.shelf.Tests.{and-parts, eqb-true, ltb-true, leb-true}
 use Rattle.chains.specs.Bits.{bits-of, total}
 use Rattle.chains.specs.Model.{Cells}
 use Rattle.chains.specs.ReedMuller.{Muller-range, counted, inside, muller-widths, order}
-use Rattle.chains.specs.Votes.{Column, meet, column, columns}
+use Rattle.chains.specs.Votes.{Column, meet, subsets, column, columns}
 use Rattle.chains.proofs.Laying.{getD-counted, length-counted}
 use Rattle.chains.proofs.Voting.{Good-set, Good, overlay}
 
@@ -26,7 +26,7 @@ each-muller P one two three four (suc (suc (suc (suc zero)))) range = four
 each-muller P one two three four (suc (suc (suc (suc (suc r))))) range = absurd (omega arith)
 
 -- all of a list pass a test, and what that says of each
-abbrev every : {X : Type 0} → (X → Bool) → List X → Bool
+abbrev pub every : {X : Type 0} → (X → Bool) → List X → Bool
 every test [] = true
 every test (x ∷ xs) = test x && every test xs
 
@@ -36,7 +36,7 @@ all-from-every test P tells (x ∷ xs) e =
     let p = and-parts (test x) (every test xs) e in (tells x (p .0), all-from-every test P tells xs (p .1))
 
 -- a test that passes at each of k numbers from i on
-counted-test : (test : ℕ → Bool) (i k p : ℕ) → every test (counted i k) ≡ true → p < k → test (i + p) ≡ true
+pub counted-test : (test : ℕ → Bool) (i k p : ℕ) → every test (counted i k) ≡ true → p < k → test (i + p) ≡ true
 counted-test test i k p e h =
     subst (λ (q : ℕ). test q ≡ true) (getD-counted i k p h)
     (all-getD (λ q. test q ≡ true) (counted i k) p 0 (omega (arith, length-counted i k)) (all-from-every test (λ q. test q ≡ true) (λ _ t. t) (counted i k) e))
@@ -85,6 +85,7 @@ good-tells n (c ∷ cs) e =
     (cells-tell n own (p .0), all-from-every (set-test n own cs) (Good-set n own cs) (λ set. set-tells n own cs set) (c .checks) (q .0), ones-tell over (t .0) ∙ ap (λ k. replicate k 1) (eqb-true (length over) n (t .1)), good-tells n cs (s .1))
 
 pub muller-good : (r : ℕ) → Muller-range r → Good (2 ^ r) (columns r)
+unfolding subsets
 muller-good r range = good-tells (2 ^ r) (columns r) (each-muller (λ k. good-test (2 ^ k) (columns k) ≡ true) refl refl refl refl r range)
 
 -- each stage's bits and those of the later stages have at least as many check sums as the stage's distance
@@ -92,6 +93,7 @@ abbrev enough-test : ℕ → ℕ → Bool
 enough-test r i = every (λ (c : Column). leb (2 ^ (i - 1)) (length (c .checks))) (drop (total (take (i - 1) (muller-widths r))) (columns r))
 
 pub muller-enough : (r i : ℕ) → Muller-range r → 1 ≤ i → i ≤ r + 1 → All (λ (c : Column). 2 ^ (i - 1) ≤ length (c .checks)) (drop (total (take (i - 1) (muller-widths r))) (columns r))
+unfolding subsets
 muller-enough r i range low high =
     let all = each-muller (λ k. every (enough-test k) (counted 1 (k + 1)) ≡ true) refl refl refl refl r range in
     let here : 1 + (i - 1) ≡ i = omega arith in
@@ -106,6 +108,7 @@ abbrev reach-test : ℕ → ℕ → Bool
 reach-test r p = every (reach-here r p) (order r)
 
 pub muller-reach : (r p : ℕ) → Muller-range r → p < 2 ^ r → All (λ s. Cells (2 ^ r) (column r s .reaches) × (getD (column r s .reaches) p 0 ≡ cond (inside s p) 1 0)) (order r)
+unfolding subsets
 muller-reach r p range at =
     let all = each-muller (λ k. every (reach-test k) (counted 0 (2 ^ k)) ≡ true) refl refl refl refl r range in
     let here : 0 + p ≡ p = omega arith in
@@ -130,6 +133,7 @@ abbrev some-test : ℕ → Bool
 some-test r = every (leb 1) (muller-widths r) && every (λ w. leb w 8) (muller-widths r)
 
 pub muller-sizes : (r : ℕ) → Muller-range r → Muller-sizes r
+unfolding subsets
 muller-sizes r range =
     let widths = and-parts (every (leb 1) (muller-widths r)) _ (each-muller (λ k. some-test k ≡ true) refl refl refl refl r range) in
     record {
