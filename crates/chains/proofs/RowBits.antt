@@ -1,18 +1,20 @@
 -- A row of labels and its bits. Assumes nothing.
 use mathlib.Core.Path.{_≡_, refl, sym, ap, ap₂, subst, _∙_}
 use mathlib.Core.List.{List, [], _∷_, _++_}
-use Prim.Native.Nat.{ℕ, zero, suc, _+_, _-_, _^_, _<_, _≤_}
-use native.Mathlib.Nat.{mod-eq-of-lt}
+use Prim.Native.Nat.{ℕ, zero, suc, _+_, _-_, _*_, _^_, _<_, _≤_}
+use native.Mathlib.Nat.{lt-of-lt-of-le, mod-eq-of-lt}
 use native.Mathlib.Numerals.{add-one}
 use native.Mathlib.Omega.{arith}
 use lib.ListN.{length, take, drop, getD}
+use lib.Pow.{pow-mono}
 use Rattle.std.specs.shelf.Lists.{All}
 use Rattle.std.proofs.shelf.Elements.{all-append, all-take, all-drop}
-use Rattle.std.proofs.shelf.Lists.{append-assoc, drop-more, length-append, length-drop, length-take-le, take-append-drop, take-at, drop-at}
+use Rattle.std.proofs.shelf.Lists.{append-assoc, append-nil, take-more, drop-more, length-append, length-drop, length-take-le, take-append-drop, take-at, drop-at}
 use Rattle.chains.specs.Bits.{bits-of, spelled, total}
 use Rattle.chains.specs.Model.{Labels-from, at-stage}
 use Rattle.chains.specs.ReedMuller.{row-bits}
-use Rattle.chains.proofs.Spelling.{length-bits, bits-small, spelled-bits, spelled-small, bits-spelled}
+use Rattle.chains.proofs.Parity.{total-append}
+use Rattle.chains.proofs.Spelling.{spelled-append, length-bits, bits-small, spelled-bits, spelled-small, bits-spelled}
 
 -- labels below the bounds of their widths, one by one
 abbrev pub Fit : List ℕ → List ℕ → Type 0
@@ -93,3 +95,62 @@ cut-row-bits (w ∷ ws) (x ∷ us) l f =
     let front : take w (bits-of w x ++ row-bits ws us) ≡ bits-of w x = take-at (bits-of w x) _ w (length-bits w x) in
     let back : drop w (bits-of w x ++ row-bits ws us) ≡ row-bits ws us = drop-at (bits-of w x) _ w (length-bits w x) in
     ap₂ _∷_ (ap spelled front ∙ spelled-bits w x ∙ mod-eq-of-lt (f .0)) (ap (cut ws) back ∙ cut-row-bits ws us (omega arith) (f .1))
+
+pub row-bits-none : (ws : List ℕ) → row-bits ws [] ≡ []
+row-bits-none [] = refl
+row-bits-none (w ∷ ws) = refl
+
+labels-getD : (width : ℕ → ℕ) (us : List ℕ) (j i : ℕ) → Labels-from width j us → i < length us → getD us i 0 < 2 ^ width (j + i)
+labels-getD width [] j i a h = absurd (omega arith)
+labels-getD width (x ∷ us) j zero a h = let here : j ≡ j + 0 = omega arith in subst (λ (k : ℕ). x < 2 ^ width k) here (a .0)
+labels-getD width (x ∷ us) j (suc i) a h =
+    let here : suc j + i ≡ j + suc i = omega arith in
+    subst (λ (k : ℕ). getD us i 0 < 2 ^ width k) here (labels-getD width us (suc j) i (a .1) (omega arith))
+
+-- one label more, as a program joins its bits to those before
+pub record Joins (ws labels : List ℕ) (i : ℕ) : Type 0 where
+  pub next-bits : spelled (row-bits ws (take i labels)) * 2 ^ getD ws i 0 + getD labels i 0 ≡ spelled (row-bits ws (take (i + 1) labels))
+  pub next-count : length (row-bits ws (take i labels)) + getD ws i 0 ≡ length (row-bits ws (take (i + 1) labels))
+  pub few : length (row-bits ws (take (i + 1) labels)) ≤ total ws
+  pub small : spelled (row-bits ws (take (i + 1) labels)) < 2 ^ total ws
+
+pub length-row-most : (ws us : List ℕ) → length us ≤ length ws → length (row-bits ws us) ≤ total ws
+length-row-most ws us h =
+    let split = sym (total-append (take (length us) ws) (drop (length us) ws)) ∙ ap total (take-append-drop (length us) ws) in
+    omega (arith, length-row-bits ws us h, split)
+
+pub joins : (ws labels : List ℕ) (i : ℕ) → length labels ≤ length ws → Labels-from (at-stage ws) 1 labels → i < length labels → Joins ws labels i
+joins ws labels i few fit h =
+    record {
+      next-bits = sym (ap spelled more ∙ spelled-append before-it (bits-of w x) ∙ ap₂ (λ k y. spelled before-it * 2 ^ k + y) (length-bits w x) (spelled-bits w x ∙ mod-eq-of-lt small-label));
+      next-count = sym (ap length more ∙ length-append before-it (bits-of w x) ∙ ap (λ k. length before-it + k) (length-bits w x));
+      few = length-row-most ws (take (i + 1) labels) short;
+      small = lt-of-lt-of-le (spelled-small (row-bits ws (take (i + 1) labels)) (row-bits-small ws (take (i + 1) labels))) (pow-mono {i = length (row-bits ws (take (i + 1) labels))} {j = total ws} (length-row-most ws (take (i + 1) labels) short));
+    }
+  where
+    w : ℕ
+    w = getD ws i 0
+
+    x : ℕ
+    x = getD labels i 0
+
+    before-it : List ℕ
+    before-it = row-bits ws (take i labels)
+
+    short : length (take (i + 1) labels) ≤ length ws
+    short = omega (arith, length-take-le (i + 1) labels (omega arith))
+
+    small-label : x < 2 ^ w
+    small-label = let here : 1 + i - 1 ≡ i = omega arith in subst (λ (k : ℕ). x < 2 ^ getD ws k 0) here (labels-getD (at-stage ws) labels 1 i fit h)
+
+    front : length (take i labels) ≡ i
+    front = length-take-le i labels (omega arith)
+
+    more : row-bits ws (take (i + 1) labels) ≡ before-it ++ bits-of w x
+    more =
+        ap (row-bits ws) (take-more labels i 0 h)
+        ∙ row-bits-append ws (take i labels) (x ∷ []) (omega (arith, front))
+        ∙ ap (λ k. before-it ++ row-bits (drop k ws) (x ∷ [])) front
+        ∙ ap (λ vs. before-it ++ row-bits vs (x ∷ [])) (drop-more ws i 0 (omega arith))
+        ∙ ap (λ bs. before-it ++ (bits-of w x ++ bs)) (row-bits-none (drop (i + 1) ws))
+        ∙ ap (λ bs. before-it ++ bs) (append-nil (bits-of w x))

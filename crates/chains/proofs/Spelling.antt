@@ -2,7 +2,7 @@
 use mathlib.Core.Path.{_≡_, refl, sym, ap, ap₂, subst, _∙_}
 use mathlib.Core.List.{List, [], _∷_, _++_}
 use Prim.Native.Nat.{ℕ, zero, suc, _+_, _-_, _*_, _/_, _%_, _^_, _<_, _≤_}
-use native.Mathlib.Nat.{lt-of-lt-of-le, mod-eq-of-lt, mul-add, mul-le-mul-right, le-pred-of-lt}
+use native.Mathlib.Nat.{add-mul, mul-assoc, lt-of-lt-of-le, mod-eq-of-lt, mul-add, mul-le-mul-right, le-pred-of-lt}
 use native.Mathlib.Omega.{arith}
 use lib.ListN.{length, take, getD}
 use lib.Pow.{field, mod-mod-pow, pow-mono}
@@ -79,3 +79,10 @@ pub spelled-front : (xs : List ℕ) (i k : ℕ) → All (λ b. b < 2) xs → i �
 spelled-front xs i k a few within =
     let long = length-take-le i xs within in
     lt-of-lt-of-le (subst (λ (n : ℕ). spelled (take i xs) < 2 ^ n) long (spelled-small (take i xs) (all-take (λ b. b < 2) i xs a))) (pow-mono {i = i} {j = k} few)
+
+pub spelled-append : (xs ys : List ℕ) → spelled (xs ++ ys) ≡ spelled xs * 2 ^ length ys + spelled ys
+spelled-append [] ys = omega arith
+spelled-append (x ∷ xs) ys =
+    let p = 2 ^ length ys in
+    let high : x * 2 ^ length (xs ++ ys) ≡ x * 2 ^ length xs * p = ap (λ n. x * 2 ^ n) (length-append xs ys) ∙ ap (λ n. x * n) (pow-add 2 (length xs) (length ys)) ∙ sym (mul-assoc x (2 ^ length xs) p) in
+    omega (arith, high, add-mul (x * 2 ^ length xs) (spelled xs) p, spelled-append xs ys)
