@@ -33,16 +33,18 @@ pub refuses : {X : Type 0} (due : Option Fault) (P : X → Type 0) (r : Result X
 refuses None P r e p = absurd (let z : _≡_ {A = ℕ} 0 1 = cc in omega arith)
 refuses (Some g) P r e p = cc
 
--- the refusals over a width list that was worked out
-pub same-row : {m n : ℕ} {ws vs : List ℕ} (labels cells : List ℕ) → m ≡ n → ws ≡ vs → word-refusal m (length ws) (at-stage ws) labels cells ≡ word-refusal n (length vs) (at-stage vs) labels cells
-same-row labels cells = ap₂ (λ k us. word-refusal k (length us) (at-stage us) labels cells)
+-- the refusals over a list of k widths that was worked out
+pub same-row : {m n k : ℕ} {ws vs : List ℕ} (labels cells : List ℕ) → m ≡ n → ws ≡ vs → length vs ≡ k → word-refusal m (length ws) (at-stage ws) labels cells ≡ word-refusal n k (at-stage vs) labels cells
+same-row {n = n} {vs = vs} labels cells em ew el =
+    ap₂ (λ j us. word-refusal j (length us) (at-stage us) labels cells) em ew ∙ ap (λ j. word-refusal n j (at-stage vs) labels cells) el
 
-pub same-reading : {m n : ℕ} {ws vs : List ℕ} (i : ℕ) (labels cells marks : List ℕ) → m ≡ n → ws ≡ vs → estimate-refusal m (length ws) (at-stage ws) i labels cells marks ≡ estimate-refusal n (length vs) (at-stage vs) i labels cells marks
-same-reading i labels cells marks = ap₂ (λ k us. estimate-refusal k (length us) (at-stage us) i labels cells marks)
+pub same-reading : {m n k : ℕ} {ws vs : List ℕ} (i : ℕ) (labels cells marks : List ℕ) → m ≡ n → ws ≡ vs → length vs ≡ k → estimate-refusal m (length ws) (at-stage ws) i labels cells marks ≡ estimate-refusal n k (at-stage vs) i labels cells marks
+same-reading {n = n} {vs = vs} i labels cells marks em ew el =
+    ap₂ (λ j us. estimate-refusal j (length us) (at-stage us) i labels cells marks) em ew ∙ ap (λ j. estimate-refusal n j (at-stage vs) i labels cells marks) el
 
 -- a check over such a list that passed
-pub row-passed : {m n : ℕ} {ws vs : List ℕ} (labels cells : List ℕ) {u : Unit {0}} → m ≡ n → ws ≡ vs → Ok u ≡ checked (word-refusal m (length ws) (at-stage ws) labels cells) → word-refusal n (length vs) (at-stage vs) labels cells ≡ None
-row-passed labels cells em ew e = sym (same-row labels cells em ew) ∙ checked-ok _ e
+pub row-passed : {m n k : ℕ} {ws vs : List ℕ} (labels cells : List ℕ) {u : Unit {0}} → m ≡ n → ws ≡ vs → length vs ≡ k → Ok u ≡ checked (word-refusal m (length ws) (at-stage ws) labels cells) → word-refusal n k (at-stage vs) labels cells ≡ None
+row-passed labels cells em ew el e = sym (same-row labels cells em ew el) ∙ checked-ok _ e
 
-pub reading-passed : {m n : ℕ} {ws vs : List ℕ} (i : ℕ) (labels cells marks : List ℕ) {u : Unit {0}} → m ≡ n → ws ≡ vs → Ok u ≡ checked (estimate-refusal m (length ws) (at-stage ws) i labels cells marks) → estimate-refusal n (length vs) (at-stage vs) i labels cells marks ≡ None
-reading-passed i labels cells marks em ew e = sym (same-reading i labels cells marks em ew) ∙ checked-ok _ e
+pub reading-passed : {m n k : ℕ} {ws vs : List ℕ} (i : ℕ) (labels cells marks : List ℕ) {u : Unit {0}} → m ≡ n → ws ≡ vs → length vs ≡ k → Ok u ≡ checked (estimate-refusal m (length ws) (at-stage ws) i labels cells marks) → estimate-refusal n k (at-stage vs) i labels cells marks ≡ None
+reading-passed i labels cells marks em ew el e = sym (same-reading i labels cells marks em ew el) ∙ checked-ok _ e

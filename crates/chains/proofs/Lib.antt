@@ -8,6 +8,7 @@ pub mod Labels
 pub mod Laying
 pub mod Masks
 pub mod MullerColumns
+pub mod MullerEstimates
 pub mod MullerLaw
 pub mod MullerSteps
 pub mod MullerTables

@@ -1,13 +1,13 @@
 -- The tables of the Reed-Muller chains, each shown right by one test. Assumes nothing.
 use mathlib.Core.Path.{_≡_, refl, sym, ap, ap₂, subst, _∙_}
-use mathlib.Core.Bool.{Bool, true, false, cond, _&&_}
+use mathlib.Core.Bool.{Bool, true, false, cond, not, _&&_, _||_}
 use mathlib.Core.List.{List, [], _∷_}
 use Prim.Native.Nat.{ℕ, suc, _+_, _-_, _*_, _/_, _%_, _^_, _<_, _≤_}
 use native.Mathlib.Omega.{arith}
 use lib.Bits.{bitAnd}
 use lib.Dec.{eqb, leb, ltb}
 use lib.ListN.{length, take, drop, getD}
-use Rattle.std.proofs.shelf.Tests.{and-parts, eqb-true, ltb-true}
+use Rattle.std.proofs.shelf.Tests.{and-parts, eqb-true, ltb-true, eq-eqb}
 use Rattle.words.proofs.Table.{entry-passes}
 use Rattle.chains.specs.ReedMuller.{Muller-range, counted, muller-widths, order}
 use Rattle.chains.specs.Votes.{subsets}
@@ -61,3 +61,24 @@ subsets-small r s range h =
     let all = each-muller (λ k. every (set-small k) (counted 0 (2 ^ k)) ≡ true) refl refl refl refl r range in
     let here : 0 + s ≡ s = omega arith in
     ltb-true (subsets s) (2 ^ 2 ^ r) (subst (λ (q : ℕ). set-small r q ≡ true) here (counted-test (set-small r) 0 (2 ^ r) s all h))
+
+-- so does each of a bit's sets
+abbrev free-small : ℕ → ℕ → ℕ → Bool
+free-small r s a = not (eqb (bitAnd a s) 0) || ltb (subsets s * 2 ^ a) (2 ^ 2 ^ r)
+
+abbrev all-free-small : ℕ → ℕ → Bool
+all-free-small r s = every (free-small r s) (counted 0 (2 ^ r))
+
+pub set-fits : (r s a : ℕ) → Muller-range r → s < 2 ^ r → a < 2 ^ r → bitAnd a s ≡ 0 → subsets s * 2 ^ a < 2 ^ 2 ^ r
+unfolding subsets
+set-fits r s a range hs ha free =
+    let all = each-muller (λ k. every (all-free-small k) (counted 0 (2 ^ k)) ≡ true) refl refl refl refl r range in
+    let here : 0 + s ≡ s = omega arith in
+    let there : 0 + a ≡ a = omega arith in
+    let row = subst (λ (q : ℕ). all-free-small r q ≡ true) here (counted-test (all-free-small r) 0 (2 ^ r) s all hs) in
+    let test : free-small r s a ≡ true = subst (λ (q : ℕ). free-small r s q ≡ true) there (counted-test (free-small r s) 0 (2 ^ r) a row ha) in
+    ltb-true (subsets s * 2 ^ a) (2 ^ 2 ^ r) (by-test (eqb (bitAnd a s) 0) (eq-eqb (bitAnd a s) 0 free) test)
+  where
+    by-test : (t : Bool) → t ≡ true → (not t || ltb (subsets s * 2 ^ a) (2 ^ 2 ^ r)) ≡ true → ltb (subsets s * 2 ^ a) (2 ^ 2 ^ r) ≡ true
+    by-test true e test = test
+    by-test false e test = cc

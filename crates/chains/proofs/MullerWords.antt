@@ -30,7 +30,7 @@ total-split k ws = sym (total-append (take k ws) (drop k ws)) ∙ ap total (take
 
 module _ (r : ℕ) (range : Muller-range r) where
   -- a row's word is what its bits leave
-  word-is : (u : List ℕ) → muller-word r u ≡ laid (columns r) (row-bits (muller-widths r) u) (replicate (2 ^ r) 0)
+  pub word-is : (u : List ℕ) → muller-word r u ≡ laid (columns r) (row-bits (muller-widths r) u) (replicate (2 ^ r) 0)
   word-is u = word-laid (2 ^ r) (column r) (order r) (row-bits (muller-widths r) u) (muller-good r range) (row-bits-small (muller-widths r) u) (λ p at. muller-reach r p range at)
 
   pub word-cells : (u : List ℕ) → Cells (2 ^ r) (muller-word r u)
@@ -41,33 +41,43 @@ module _ (r : ℕ) (range : Muller-range r) where
 
   -- a stage, the labels before it, and a reading
   module _ (i : ℕ) (labels y m : List ℕ) (low : 1 ≤ i) (high : i ≤ r + 1) (many : length labels ≡ i - 1) (fy : Cells (2 ^ r) y) (fm : Cells (2 ^ r) m) where
-    abbrev ws : List ℕ
+    abbrev pub ws : List ℕ
     ws = muller-widths r
 
-    abbrev decided : List ℕ
+    abbrev pub decided : List ℕ
     decided = row-bits ws labels
 
     -- the bits that are left to find, the reading without the decided ones, and what the votes find
-    abbrev open-columns : List Column
+    abbrev pub open-columns : List Column
     open-columns = drop (length decided) (columns r)
 
-    abbrev begun : List ℕ
+    abbrev pub begun : List ℕ
     begun = laid (columns r) decided y
 
-    abbrev found : List ℕ
+    abbrev pub found : List ℕ
     found = settled open-columns begun m
 
     sizes : Muller-sizes r
     sizes = muller-sizes r range
 
-    length-decided : length decided ≡ total (take (i - 1) ws)
+    pub length-decided : length decided ≡ total (take (i - 1) ws)
     length-decided = length-row-bits ws labels (omega (arith, many, sizes .stages)) ∙ ap (λ k. total (take k ws)) many
 
     fits-in : length decided ≤ length (columns r)
     fits-in = omega (arith, length-decided, total-split (i - 1) ws, sizes .bits, sizes .many)
 
-    length-open : length open-columns ≡ total (drop (i - 1) ws)
+    pub length-open : length open-columns ≡ total (drop (i - 1) ws)
     length-open = length-drop (length decided) (columns r) ∙ omega (arith, length-decided, total-split (i - 1) ws, sizes .bits, sizes .many)
+
+    pub length-found : length found ≡ 2 ^ r - length decided
+    length-found = length-settled open-columns begun m ∙ length-drop (length decided) (columns r) ∙ ap (λ k. k - length decided) (sizes .many)
+
+    -- the stage's own bits are among those that are open
+    pub room : length decided + at-stage ws i ≤ 2 ^ r
+    room =
+        let here : suc (i - 1) ≡ i = omega arith in
+        let open-widths : drop (i - 1) ws ≡ at-stage ws i ∷ drop i ws = widths-more ws (i - 1) (omega (arith, sizes .stages)) ∙ ap (λ k. at-stage ws k ∷ drop k ws) here in
+        omega (arith, length-decided, total-split (i - 1) ws, ap total open-widths, sizes .bits)
 
     -- the harm against a row that begins with the labels, by what is left of the reading
     left-is : (rest : List ℕ) → harm y m (muller-word r (labels ++ rest)) ≡ left-harm (laid open-columns (row-bits (drop (i - 1) ws) rest) begun) m
@@ -89,7 +99,7 @@ module _ (r : ℕ) (range : Muller-range r) where
         (all-weaker (λ (c : Column). 2 ^ (i - 1) ≤ length (c .checks)) (λ (c : Column). left-harm e m < length (c .checks)) (λ c h. omega (arith, few, h)) open-columns enough)
 
     -- the row that was found, and its harm
-    abbrev later : List ℕ
+    abbrev pub later : List ℕ
     later = cut (drop (i - 1) ws) found
 
     found-bits : row-bits (drop (i - 1) ws) later ≡ found

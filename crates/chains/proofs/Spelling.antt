@@ -2,14 +2,14 @@
 use mathlib.Core.Path.{_≡_, refl, sym, ap, ap₂, subst, _∙_}
 use mathlib.Core.List.{List, [], _∷_, _++_}
 use Prim.Native.Nat.{ℕ, zero, suc, _+_, _-_, _*_, _/_, _%_, _^_, _<_, _≤_}
-use native.Mathlib.Nat.{add-mul, mul-assoc, lt-of-lt-of-le, mod-eq-of-lt, mul-add, mul-le-mul-right, le-pred-of-lt}
+use native.Mathlib.Nat.{zero-div, add-mul, mul-assoc, lt-of-lt-of-le, mod-eq-of-lt, mul-add, mul-le-mul-right, le-pred-of-lt}
 use native.Mathlib.Omega.{arith}
-use lib.ListN.{length, take, getD}
+use lib.ListN.{length, take, drop, getD, replicate}
 use lib.Pow.{field, mod-mod-pow, pow-mono}
 use Rattle.std.specs.shelf.Lists.{All}
 use Rattle.std.proofs.shelf.Bits.{mod-pow-add, pow-add, shr-high, mod-low}
-use Rattle.std.proofs.shelf.Elements.{all-take}
-use Rattle.std.proofs.shelf.Lists.{length-append, length-take-le, take-more}
+use Rattle.std.proofs.shelf.Elements.{all-take, all-drop}
+use Rattle.std.proofs.shelf.Lists.{length-append, length-drop, length-take-le, take-append-drop, take-more}
 use Rattle.chains.specs.Bits.{bits-of, spelled}
 
 pub length-bits : (k x : ℕ) → length (bits-of k x) ≡ k
@@ -86,3 +86,18 @@ spelled-append (x ∷ xs) ys =
     let p = 2 ^ length ys in
     let high : x * 2 ^ length (xs ++ ys) ≡ x * 2 ^ length xs * p = ap (λ n. x * 2 ^ n) (length-append xs ys) ∙ ap (λ n. x * n) (pow-add 2 (length xs) (length ys)) ∙ sym (mul-assoc x (2 ^ length xs) p) in
     omega (arith, high, add-mul (x * 2 ^ length xs) (spelled xs) p, spelled-append xs ys)
+
+-- the first w bits, as a program shifts them out
+pub spelled-head : (bs : List ℕ) (w : ℕ) → w ≤ length bs → All (λ b. b < 2) bs → spelled bs / 2 ^ (length bs - w) ≡ spelled (take w bs)
+spelled-head bs w h a =
+    let k = length bs - w in
+    let back : length (drop w bs) ≡ k = length-drop w bs in
+    let low : spelled (drop w bs) < 2 ^ k = subst (λ (n : ℕ). spelled (drop w bs) < 2 ^ n) back (spelled-small (drop w bs) (all-drop (λ b. b < 2) w bs a)) in
+    ap (λ x. spelled x / 2 ^ k) (sym (take-append-drop w bs))
+    ∙ ap (λ x. x / 2 ^ k) (spelled-append (take w bs) (drop w bs))
+    ∙ ap (λ n. (spelled (take w bs) * 2 ^ n + spelled (drop w bs)) / 2 ^ k) back
+    ∙ shr-high (spelled (take w bs)) k (spelled (drop w bs)) low
+
+pub bits-none : (k : ℕ) → bits-of k 0 ≡ replicate k 0
+bits-none zero = refl
+bits-none (suc k) = let top : 0 / 2 ^ k % 2 ≡ 0 = ap (λ x. x % 2) (zero-div (2 ^ k)) in ap₂ _∷_ top (bits-none k)

@@ -211,7 +211,7 @@ pub length-settled : (cs : List Column) (y m : List ℕ) → length (settled cs 
 length-settled [] y m = refl
 length-settled (c ∷ cs) y m = ap suc (length-settled cs (turned (elected (c .checks) y m) c y) m)
 
-elected-small : (sets : List (List ℕ)) (y m : List ℕ) → elected sets y m < 2
+pub elected-small : (sets : List (List ℕ)) (y m : List ℕ) → elected sets y m < 2
 elected-small sets y m = elim (ltb (votes 0 sets y m) (votes 1 sets y m)) as (λ t. cond t 1 0 < 2) [ true ↦ omega arith | false ↦ omega arith ]
 
 pub settled-small : (cs : List Column) (y m : List ℕ) → All (λ b. b < 2) (settled cs y m)

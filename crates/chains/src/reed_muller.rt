@@ -1,15 +1,17 @@
 // The Reed-Muller chain of 2^r cells. A bit's number is a set of coordinates, as a cell's is, and a bit turns the
 // cells that have all of its ones. Words are numbers here, the first cell most significant.
 ghost use mathlib.Core.Path.{_≡_};
-ghost use Prim.Native.Nat.{_+_, _-_, _^_, _<_, _≤_};
-ghost use lib.ListN.{length, take, getD};
+ghost use Prim.Native.Nat.{_+_, _-_, _*_, _/_, _^_, _<_, _≤_};
+ghost use lib.Bits.{bitOr};
+ghost use lib.Count.{ones};
+ghost use lib.ListN.{length, take, drop, getD};
 ghost use Rattle.std.specs.Results.{Cases};
 ghost use Rattle.chains.specs.Bits.{bits-of, spelled};
 ghost use Rattle.chains.specs.Model.{Cells, Labels-from, at-stage};
 ghost use Rattle.chains.specs.Promises.{Estimates};
 ghost use Rattle.chains.specs.ReedMuller.{Muller-range, muller-widths, muller-word, muller-chain, order, row-bits};
 ghost use Rattle.chains.specs.Refusals.{outside, Row-fits, Reading-fits};
-ghost use Rattle.chains.specs.Votes.{column, columns, turned, laid, settled, elected, left-harm, subsets};
+ghost use Rattle.chains.specs.Votes.{column, columns, turned, laid, settled, voice, elected, subsets, decided-bits, found-bits, found-harm};
 use crate::chain::Chain;
 use crate::chain::Estimate;
 use crate::checks::check_reading;
@@ -74,6 +76,97 @@ impl ReedMuller {
         rest
     }
 
+    // Whether a set of cells has no blank one and the sum b: a vote for that bit.
+    fn speaks(&self, b: u32, set: u16, word: u16, blank: u16) -> usize
+        requires { ⌜ set < 2 ^ 2 ^ now self .r ⌝ }
+        ensures { λ v. ⌜ v ≡ voice b (bits-of (2 ^ now (self .entry) .r) set) (bits-of (2 ^ now (self .entry) .r) word) (bits-of (2 ^ now (self .entry) .r) blank) ⌝ }
+    {
+        if blank & set == 0 && (word & set).count_ones() % 2 == b {
+            1
+        } else {
+            0
+        }
+    }
+
+    // The bit numbered s, as most of the sets vote from which it can be read: each has the cells with the same ones
+    // outside s.
+    fn vote(&self, s: usize, word: u16, blank: u16) -> u16
+        requires { ⌜ s < 2 ^ now self .r ⌝ }
+        ensures { λ b. ⌜ b ≡ elected (column (now (self .entry) .r) s .checks) (bits-of (2 ^ now (self .entry) .r) word) (bits-of (2 ^ now (self .entry) .r) blank) ⌝ }
+    {
+        let mut zeros = 0;
+        let mut ones = 0;
+        for a in 0..self.cells() {
+            if a & s == 0 {
+                let set = subsets(s) << a;
+                zeros += self.speaks(0, set, word, blank);
+                ones += self.speaks(1, set, word, blank);
+            }
+        }
+        if zeros < ones { 1 } else { 0 }
+    }
+
+    // Votes for the bits from place `from` on, each taken off before the next.
+    fn settle(&self, from: usize, word: u16, blank: u16) -> Settled
+        requires { ⌜ from ≤ 2 ^ now self .r ⌝ ∗ ⌜ word < 2 ^ 2 ^ now self .r ⌝ }
+        ensures bits { λ x. ⌜ x .bits ≡ spelled (settled (drop from (columns (now (self .entry) .r))) (bits-of (2 ^ now (self .entry) .r) word) (bits-of (2 ^ now (self .entry) .r) blank)) ⌝ }
+        ensures rest { λ x. ⌜ bits-of (2 ^ now (self .entry) .r) (x .rest) ≡ laid (drop from (columns (now (self .entry) .r))) (settled (drop from (columns (now (self .entry) .r))) (bits-of (2 ^ now (self .entry) .r) word) (bits-of (2 ^ now (self .entry) .r) blank)) (bits-of (2 ^ now (self .entry) .r) word) ⌝ }
+        ensures small { λ x. ⌜ x .rest < 2 ^ 2 ^ now (self .entry) .r ⌝ }
+    {
+        let mut bits = 0;
+        let mut rest = word;
+        for t in from..self.cells() {
+            let bit = self.vote(number(self.r, t), rest, blank);
+            bits = 2 * bits + bit;
+            rest = self.turn(t, bit, rest);
+        }
+        Settled { bits, rest }
+    }
+
+    // The row that the votes find, once the decided labels are taken off the reading.
+    fn find(&self, stage: usize, labels: &[u8], cells: &[u8], marks: &[u8]) -> Found
+        requires { ⌜ Reading-fits (2 ^ now self .r) (now self .r + 1) (at-stage (muller-widths (now self .r))) stage (now labels) (now cells) (now marks) ⌝ }
+        ensures count { λ x. ⌜ x .count ≡ length (decided-bits (now (self .entry) .r) (now (labels .entry))) ⌝ }
+        ensures bits { λ x. ⌜ x .bits ≡ spelled (found-bits (now (self .entry) .r) (now (labels .entry)) (now (cells .entry)) (now (marks .entry))) ⌝ }
+        ensures harm { λ x. ⌜ x .harm ≡ found-harm (now (self .entry) .r) (now (labels .entry)) (now (cells .entry)) (now (marks .entry)) ⌝ }
+    {
+        let decided = self.join(labels);
+        let blank = pack(marks);
+        let begun = self.take_off(decided.bits, decided.count, pack(cells));
+        let settled = self.settle(decided.count, begun, blank);
+        Found {
+            count: decided.count,
+            bits: settled.bits,
+            harm: harm_left(settled.rest, blank),
+        }
+    }
+
+    // The label at a stage of the row that the votes find, if that row lies near enough.
+    fn nearest(&self, stage: usize, labels: &[u8], cells: &[u8], marks: &[u8]) -> Option<Estimate>
+        requires { ⌜ Reading-fits (2 ^ now self .r) (now self .r + 1) (at-stage (muller-widths (now self .r))) stage (now labels) (now cells) (now marks) ⌝ }
+        ensures { λ e. ⌜ Estimates (muller-chain (now (self .entry) .r)) stage (now (labels .entry)) (now (cells .entry)) (now (marks .entry)) e ⌝ }
+    {
+        let found = self.find(stage, labels, cells, marks);
+        if found.harm < 1 << (stage - 1) {
+            let label = self.first_label(stage, found.count, found.bits);
+            Some(Estimate {
+                label,
+                harm: found.harm,
+            })
+        } else {
+            None
+        }
+    }
+
+    // The label of a stage, at the head of the bits from that stage on.
+    fn first_label(&self, stage: usize, count: usize, bits: u16) -> u8
+        requires { ⌜ 1 ≤ stage ⌝ ∗ ⌜ stage ≤ now self .r + 1 ⌝ ∗ ⌜ count + at-stage (muller-widths (now self .r)) stage ≤ 2 ^ now self .r ⌝ ∗ ⌜ bits < 2 ^ (2 ^ now self .r - count) ⌝ }
+        ensures { λ x. ⌜ x ≡ bits / 2 ^ (2 ^ now (self .entry) .r - count - at-stage (muller-widths (now (self .entry) .r)) stage) ⌝ }
+    {
+        let width = usize::from(widths(self.r)[stage - 1]);
+        (bits >> (self.cells() - count - width)) as u8
+    }
+
     // The bits of labels, one stage after the other.
     fn join(&self, labels: &[u8]) -> Joined
         requires { ⌜ length (now labels) ≤ now self .r + 1 ⌝ ∗ ⌜ Labels-from (at-stage (muller-widths (now self .r))) 1 (now labels) ⌝ }
@@ -99,6 +192,21 @@ struct Joined {
     count: usize,
 }
 
+// The bits that were voted for, and what is left of the reading without them.
+#[derive(Clone, Copy)]
+struct Settled {
+    bits: u16,
+    rest: u16,
+}
+
+// How many bits were decided, the bits that were found after them, and the harm of the row that all make.
+#[derive(Clone, Copy)]
+struct Found {
+    count: usize,
+    bits: u16,
+    harm: usize,
+}
+
 // Cells or marks as one number, the first most significant.
 fn pack(cells: &[u8]) -> u16
     requires { ⌜ length (now cells) ≤ 16 ⌝ ∗ ⌜ Cells (length (now cells)) (now cells) ⌝ }
@@ -119,5 +227,58 @@ fn unpack(word: u16, cells: &mut [u8])
     let n = cells.len();
     for p in 0..n {
         cells[p] = ((word >> (n - 1 - p)) % 2) as u8;
+    }
+}
+
+// The harm of a reading, by its blank cells and what is left of it: a blank cell counts once, and not twice.
+fn harm_left(rest: u16, blank: u16) -> usize
+    ensures { λ h. ⌜ h + ones blank ≡ 2 * ones (bitOr rest blank) ⌝ }
+{
+    (2 * (rest | blank).count_ones() - blank.count_ones()) as usize
+}
+
+pub impl Chain for ReedMuller as ReedMullerChain {
+    ghost model = { λ h. muller-chain (h .r) };
+
+    ghost sound = { λ _. Unit {0} };
+
+    fn check(&self) -> Result<(), Fault> {
+        Ok(())
+    }
+
+    fn breadth(&self) -> usize {
+        self.cells()
+    }
+
+    fn stages(&self) -> usize {
+        self.r + 1
+    }
+
+    fn width(&self, stage: usize) -> Result<usize, Fault> {
+        check_stage(self.r + 1, stage)?;
+        Ok(usize::from(widths(self.r)[stage - 1]))
+    }
+
+    fn distance(&self, stage: usize) -> Result<usize, Fault> {
+        check_stage(self.r + 1, stage)?;
+        Ok(1 << (stage - 1))
+    }
+
+    fn word_of(&self, labels: &[u8], cells: &mut [u8]) -> Result<(), Fault> {
+        check_row(self.cells(), widths(self.r), labels, cells)?;
+        let row = self.join(labels);
+        unpack(self.take_off(row.bits, row.count, 0), cells);
+        Ok(())
+    }
+
+    fn estimate(
+        &self,
+        stage: usize,
+        labels: &[u8],
+        cells: &[u8],
+        marks: &[u8],
+    ) -> Result<Option<Estimate>, Fault> {
+        check_reading(self.cells(), widths(self.r), stage, labels, cells, marks)?;
+        Ok(self.nearest(stage, labels, cells, marks))
     }
 }

@@ -23,14 +23,14 @@ one-label n (x ∷ []) l a = (a .0, refl)
 one-label n (x ∷ y ∷ labels) l a = absurd (omega arith)
 
 reading : (n i : ℕ) (labels cells marks : List ℕ) {m : ℕ} {ws : List ℕ} {u : Unit {0}} → m ≡ n → ws ≡ even-widths n → Ok u ≡ checked (estimate-refusal m (length ws) (at-stage ws) i labels cells marks) → Reading-fits n 2 (at-stage (even-widths n)) i labels cells marks
-reading n i labels cells marks em ew e = reading-fits n 2 (at-stage (even-widths n)) i labels cells marks (reading-passed i labels cells marks em ew e)
+reading n i labels cells marks em ew e = reading-fits n 2 (at-stage (even-widths n)) i labels cells marks (reading-passed i labels cells marks em ew refl e)
 
 pub returns-in-Break-check-reading : need.returns-in-Break-check-reading
 returns-in-Break-check-reading c =
     let labels = c .args .labels .now in
     let cells = c .args .cells .now in
     let marks = c .args .marks .now in
-    let due = sym (same-reading (c .args .stage) labels cells marks (c .from .ensures) (c .widths .ensures)) ∙ checked-err _ (c .in-Break-check-reading .ensures tt) in
+    let due = sym (same-reading (c .args .stage) labels cells marks (c .from .ensures) (c .widths .ensures) refl) ∙ checked-err _ (c .in-Break-check-reading .ensures tt) in
     (λ _. refuses _ (Estimates (even-chain (c .args .self .now .n)) (c .args .stage) labels cells marks) (c .from-residual .result) due (raised _ (c .from-residual .ensures .1)), λ no. absurd (no tt))
 
 pub estimate-first-requires : need.estimate-first-requires
@@ -49,7 +49,7 @@ returns-then-stage-eq1 c =
     let n = c .args .self .now .n in
     let cells = c .args .cells .now in
     let marks = c .args .marks .now in
-    let none = reading-passed (c .args .stage) (c .args .labels .now) cells marks (c .from .ensures) (c .widths .ensures) (c .in-Continue-check-reading .ensures tt) in
+    let none = reading-passed (c .args .stage) (c .args .labels .now) cells marks (c .from .ensures) (c .widths .ensures) refl (c .in-Continue-check-reading .ensures tt) in
     let fits = reading n (c .args .stage) (c .args .labels .now) cells marks (c .from .ensures) (c .widths .ensures) (c .in-Continue-check-reading .ensures tt) in
     let empty = nil-from-length (c .args .labels .now) (omega (arith, fits .many)) in
     let near = subst₂ (λ (i : ℕ) (labels : List ℕ). Estimates (even-chain n) i labels cells marks (c .estimate-first .result)) (sym (c .if-stage-eq1 .taken)) (sym empty) (c .estimate-first .ensures) in
@@ -60,7 +60,7 @@ returns-else-stage-eq1 c =
     let n = c .args .self .now .n in
     let cells = c .args .cells .now in
     let marks = c .args .marks .now in
-    let none = reading-passed (c .args .stage) (c .args .labels .now) cells marks (c .from .ensures) (c .widths .ensures) (c .in-Continue-check-reading .ensures tt) in
+    let none = reading-passed (c .args .stage) (c .args .labels .now) cells marks (c .from .ensures) (c .widths .ensures) refl (c .in-Continue-check-reading .ensures tt) in
     let fits = reading n (c .args .stage) (c .args .labels .now) cells marks (c .from .ensures) (c .widths .ensures) (c .in-Continue-check-reading .ensures tt) in
     let two : 2 ≡ c .args .stage = omega (arith, fits .low, fits .high) in
     let one = one-label n (c .args .labels .now) (omega (arith, fits .many)) (fits .each) in

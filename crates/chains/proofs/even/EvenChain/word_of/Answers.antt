@@ -11,12 +11,12 @@ pub lay-requires : need.lay-requires
 lay-requires c κs =
     let labels = c .args .labels .now in
     let cells = c .args .cells .now in
-    let due = row-passed labels cells (c .from .ensures) (c .widths .ensures) (c .in-Continue-check-row .ensures tt) in
+    let due = row-passed labels cells (c .from .ensures) (c .widths .ensures) refl (c .in-Continue-check-row .ensures tt) in
     row-fits (c .args .self .now .n) 2 (at-stage (even-widths (c .args .self .now .n))) labels cells due
 
 pub returns : need.returns
 returns c =
     let labels = c .args .labels .now in
     let cells = c .args .cells .now in
-    let due = row-passed labels cells (c .from .ensures) (c .widths .ensures) (c .in-Continue-check-row .ensures tt) in
+    let due = row-passed labels cells (c .from .ensures) (c .widths .ensures) refl (c .in-Continue-check-row .ensures tt) in
     (λ _. (ap checked (sym due), c .lay .ensures ∙ ap (λ z. kept-or z cells (even-word (c .args .self .now .n) labels)) (sym due)), λ no. absurd (no tt))
