@@ -2,6 +2,7 @@
 use mathlib.Core.Path.{_≡_, refl, sym, ap, ap₂, subst, _∙_}
 use mathlib.Core.Bool.{Bool, true, false, cond, _&&_}
 use mathlib.Core.List.{List, [], _∷_, _++_, map}
+use mathlib.Core.Logic.{⊎-elim}
 use Prim.Native.Nat.{ℕ, suc, _+_, _-_, _*_, _/_, _%_, _^_, _<_, _≤_}
 use native.Mathlib.Nat.{mod-eq-of-lt}
 use native.Mathlib.Omega.{arith}
@@ -13,7 +14,7 @@ use lib.Pow.{pow-mono}
 use Rattle.std.specs.shelf.Lists.{All, kept-by}
 use Rattle.std.proofs.shelf.Elements.{all-getD}
 use Rattle.std.proofs.shelf.Lists.{drop-all, drop-more, take-all, getD-map, length-drop, length-map}
-use Rattle.std.proofs.shelf.Tests.{lt-ltb, le-ltb, eq-eqb, ne-eqb, and-from, and-left, and-right, cond-true, cond-false}
+use Rattle.std.proofs.shelf.Tests.{cases-eq, lt-ltb, le-ltb, eq-eqb, ne-eqb, cond-true, cond-false}
 use Rattle.chains.specs.Bits.{bits-of, spelled, total}
 use Rattle.chains.specs.Model.{Labels-from, at-stage}
 use Rattle.chains.specs.ReedMuller.{Muller-range, counted, muller-widths, order, row-bits}
@@ -77,16 +78,15 @@ module _ (r : ℕ) (range : Muller-range r) (labels ws : List ℕ) (i : ℕ) (ta
       (next, omega (arith, next, step .few, muller-sizes r range .bits, muller-sizes r range .few-cells))
 
 -- a set's vote, as it is read off words that are numbers
-module _ (n b set word blank : ℕ) (within : set < 2 ^ n) where
-  pub voice-yes : bitAnd blank set ≡ 0 → ones (bitAnd word set) % 2 ≡ b → 1 ≡ voice b (bits-of n set) (bits-of n word) (bits-of n blank)
-  voice-yes clear sum =
-      sym (cond-true _ 1 0 (and-from _ _ (eq-eqb _ 0 (meet-none n blank set clear)) (eq-eqb _ b (ap (λ x. x % 2) (sym (ones-meet n word set within)) ∙ sum))))
-
-  pub voice-blank : (bitAnd blank set ≡ 0 → ⊥) → 0 ≡ voice b (bits-of n set) (bits-of n word) (bits-of n blank)
-  voice-blank hidden = sym (cond-false _ 1 0 (and-left _ _ (ne-eqb _ 0 (λ none. hidden (none-meet n blank set within none)))))
-
-  pub voice-other : (ones (bitAnd word set) % 2 ≡ b → ⊥) → 0 ≡ voice b (bits-of n set) (bits-of n word) (bits-of n blank)
-  voice-other unlike = sym (cond-false _ 1 0 (and-right _ _ (ne-eqb _ b (λ sum. unlike (ap (λ x. x % 2) (ones-meet n word set within) ∙ sum)))))
+pub voice-is : (n b set word blank : ℕ) → set < 2 ^ n → cond (eqb (bitAnd blank set) 0 && eqb (ones (bitAnd word set) % 2) b) 1 0 ≡ voice b (bits-of n set) (bits-of n word) (bits-of n blank)
+voice-is n b set word blank within = ap₂ (λ t u. cond (t && u) 1 0) clear (ap (λ x. eqb (x % 2) b) (ones-meet n word set within))
+  where
+    clear : eqb (bitAnd blank set) 0 ≡ eqb (meet (bits-of n set) (bits-of n blank)) 0
+    clear =
+        ⊎-elim
+        (λ none. eq-eqb _ 0 none ∙ sym (eq-eqb _ 0 (meet-none n blank set none)))
+        (λ some. ne-eqb _ 0 some ∙ sym (ne-eqb _ 0 (λ none. some (none-meet n blank set within none))))
+        (cases-eq (bitAnd blank set) 0)
 
 pub voice-small : (b : ℕ) (set cells marks : List ℕ) → voice b set cells marks ≤ 1
 voice-small b set cells marks = elim (eqb (meet set marks) 0 && eqb (meet set cells % 2) b) as (λ t. cond t 1 0 ≤ 1) [ true ↦ omega arith | false ↦ omega arith ]

@@ -1,9 +1,11 @@
 // The Reed-Muller chain of 2^r cells. A bit's number is a set of coordinates, as a cell's is, and a bit turns the
 // cells that have all of its ones. Words are numbers here, the first cell most significant.
 ghost use mathlib.Core.Path.{_≡_};
-ghost use Prim.Native.Nat.{_+_, _-_, _*_, _/_, _^_, _<_, _≤_};
-ghost use lib.Bits.{bitOr};
+ghost use mathlib.Core.Bool.{cond, _&&_};
+ghost use Prim.Native.Nat.{_+_, _-_, _*_, _/_, _%_, _^_, _<_, _≤_};
+ghost use lib.Bits.{bitAnd, bitOr};
 ghost use lib.Count.{ones};
+ghost use lib.Dec.{eqb};
 ghost use lib.ListN.{length, take, drop, getD};
 ghost use Rattle.std.specs.Results.{Cases};
 ghost use Rattle.chains.specs.Bits.{bits-of, spelled};
@@ -11,7 +13,7 @@ ghost use Rattle.chains.specs.Model.{Cells, Labels-from, at-stage};
 ghost use Rattle.chains.specs.Promises.{Estimates};
 ghost use Rattle.chains.specs.ReedMuller.{Muller-range, muller-widths, muller-word, muller-chain, order, row-bits};
 ghost use Rattle.chains.specs.Refusals.{outside, Row-fits, Reading-fits};
-ghost use Rattle.chains.specs.Votes.{column, columns, turned, laid, settled, voice, elected, subsets, decided-bits, found-bits, found-harm};
+ghost use Rattle.chains.specs.Votes.{column, columns, turned, laid, settled, elected, subsets, decided-bits, found-bits, found-harm};
 use crate::chain::Chain;
 use crate::chain::Estimate;
 use crate::checks::check_reading;
@@ -70,22 +72,9 @@ impl ReedMuller {
     {
         let mut rest = word;
         for t in 0..count {
-            let bit = (bits >> (count - 1 - t)) % 2;
-            rest = self.turn(t, bit, rest);
+            rest = self.turn(t, bit_at(bits, count, t), rest);
         }
         rest
-    }
-
-    // Whether a set of cells has no blank one and the sum b: a vote for that bit.
-    fn speaks(&self, b: u32, set: u16, word: u16, blank: u16) -> usize
-        requires { ⌜ set < 2 ^ 2 ^ now self .r ⌝ }
-        ensures { λ v. ⌜ v ≡ voice b (bits-of (2 ^ now (self .entry) .r) set) (bits-of (2 ^ now (self .entry) .r) word) (bits-of (2 ^ now (self .entry) .r) blank) ⌝ }
-    {
-        if blank & set == 0 && (word & set).count_ones() % 2 == b {
-            1
-        } else {
-            0
-        }
     }
 
     // The bit numbered s, as most of the sets vote from which it can be read: each has the cells with the same ones
@@ -99,8 +88,8 @@ impl ReedMuller {
         for a in 0..self.cells() {
             if a & s == 0 {
                 let set = subsets(s) << a;
-                zeros += self.speaks(0, set, word, blank);
-                ones += self.speaks(1, set, word, blank);
+                zeros += speaks(0, set, word, blank);
+                ones += speaks(1, set, word, blank);
             }
         }
         if zeros < ones { 1 } else { 0 }
@@ -207,6 +196,26 @@ struct Found {
     harm: usize,
 }
 
+// The bit at place t of `count` bits.
+fn bit_at(bits: u16, count: usize, t: usize) -> u16
+    requires { ⌜ t < count ⌝ ∗ ⌜ count ≤ 16 ⌝ }
+    ensures is { λ b. ⌜ b ≡ bits / 2 ^ (count - 1 - t) % 2 ⌝ }
+    ensures small { λ b. ⌜ b < 2 ⌝ }
+{
+    (bits >> (count - 1 - t)) % 2
+}
+
+// A set of cells votes for b if it has no blank cell and the sum b.
+fn speaks(b: u32, set: u16, word: u16, blank: u16) -> usize
+    ensures { λ v. ⌜ v ≡ cond (eqb (bitAnd blank set) 0 && eqb (ones (bitAnd word set) % 2) b) 1 0 ⌝ }
+{
+    if blank & set == 0 && (word & set).count_ones() % 2 == b {
+        1
+    } else {
+        0
+    }
+}
+
 // Cells or marks as one number, the first most significant.
 fn pack(cells: &[u8]) -> u16
     requires { ⌜ length (now cells) ≤ 16 ⌝ ∗ ⌜ Cells (length (now cells)) (now cells) ⌝ }
@@ -226,7 +235,7 @@ fn unpack(word: u16, cells: &mut [u8])
 {
     let n = cells.len();
     for p in 0..n {
-        cells[p] = ((word >> (n - 1 - p)) % 2) as u8;
+        cells[p] = bit_at(word, n, p) as u8;
     }
 }
 

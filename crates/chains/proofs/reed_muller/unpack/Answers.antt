@@ -16,7 +16,7 @@ loop-p-again c =
     let within : p < length (c .loop-p .cells) = omega arith in
     let inside : p < length bits = omega (arith, length-bits n (c .args .word)) in
     take-more-set (c .loop-p .cells) p _ within
-    ∙ ap₂ (λ xs x. xs ++ (x ∷ [])) (c .loop-p .inv) (sym (getD-bits n (c .args .word) p (c .loop-p-test .taken)))
+    ∙ ap₂ (λ xs x. xs ++ (x ∷ [])) (c .loop-p .inv) (c .bit-at .ensures .is ∙ sym (getD-bits n (c .args .word) p (c .loop-p-test .taken)))
     ∙ sym (take-more bits p 0 inside)
 
 pub returns : need.returns

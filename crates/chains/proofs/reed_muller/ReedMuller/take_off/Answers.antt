@@ -12,8 +12,8 @@ use Rattle.chains.proofs.MullerSteps.{columns-more, laid-none}
 use Rattle.chains.proofs.Spelling.{length-bits, getD-bits}
 use Rattle.chains.proofs.reed_muller.ReedMuller.take_off.Needs as need
 
-pub shr-bit : need.shr-bit
-shr-bit c = omega (arith, muller-sizes (c .args .self .now .r) (c .args .self .now .range) .few-cells)
+pub bit-at-requires : need.bit-at-requires
+bit-at-requires c κs = (c .loop-t-test .taken, omega (arith, muller-sizes (c .args .self .now .r) (c .args .self .now .range) .few-cells))
 
 pub turn-rest-requires : need.turn-rest-requires
 turn-rest-requires c κs = (omega arith, c .loop-t .inv .0)
@@ -24,7 +24,7 @@ loop-t-again c =
     let t = c .loop-t .t in
     let bits = bits-of (c .args .count) (c .args .bits) in
     let here = columns-more r (c .args .self .now .range) t (omega arith) in
-    let bit = drop-more bits t 0 (omega (arith, length-bits (c .args .count) (c .args .bits))) ∙ ap (λ b. b ∷ drop (t + 1) bits) (getD-bits (c .args .count) (c .args .bits) t (c .loop-t-test .taken)) in
+    let bit = drop-more bits t 0 (omega (arith, length-bits (c .args .count) (c .args .bits))) ∙ ap (λ b. b ∷ drop (t + 1) bits) (getD-bits (c .args .count) (c .args .bits) t (c .loop-t-test .taken) ∙ sym (c .bit-at .ensures .is)) in
     let both = ap₂ (λ cs bs. laid cs bs (bits-of (2 ^ r) (c .loop-t .rest))) here bit in
     (c .turn-rest .ensures .small, ap (laid (drop (t + 1) (columns r)) (drop (t + 1) bits)) (c .turn-rest .ensures .is) ∙ sym both ∙ c .loop-t .inv .1)
 

@@ -1,9 +1,10 @@
+use mathlib.Core.Path.{_∙_}
 use Prim.Native.Nat.{ℕ, _^_, _<_, _≤_}
 use native.Mathlib.Omega.{arith}
 use Rattle.chains.specs.Bits.{bits-of}
 use Rattle.chains.specs.Votes.{column}
 use Rattle.chains.proofs.MullerColumns.{muller-sizes}
-use Rattle.chains.proofs.MullerSteps.{shifted, vote-free, vote-held, votes-over, elect-one, elect-zero}
+use Rattle.chains.proofs.MullerSteps.{shifted, voice-is, vote-free, vote-held, votes-over, elect-one, elect-zero}
 use Rattle.chains.proofs.reed_muller.ReedMuller.vote.Needs as need
 use Rattle.chains.proofs.reed_muller.ReedMuller.vote.Needs.{then-a-s-eq0, else-a-s-eq0}
 
@@ -12,14 +13,6 @@ subsets-requires c κs = omega (arith, c .pre, muller-sizes (c .args .self .now 
 
 pub shl-set : need.shl-set
 shl-set c = omega (arith, c .cells-a-end .ensures, muller-sizes (c .args .self .now .r) (c .args .self .now .range) .few-cells)
-
-pub speaks-zeros-requires : need.speaks-zeros-requires
-speaks-zeros-requires c κs =
-    shifted (c .args .self .now .r) (c .args .self .now .range) (c .args .s) (c .loop-a .a) 0 (bits-of 0 0) (bits-of 0 0) (c .pre) (omega (arith, c .cells-a-end .ensures)) (c .subsets .result) (c .subsets .ensures) (c .if-a-s-eq0 .taken) .1
-
-pub speaks-ones-requires : need.speaks-ones-requires
-speaks-ones-requires c κs =
-    shifted (c .args .self .now .r) (c .args .self .now .range) (c .args .s) (c .loop-a .a) 1 (bits-of 0 0) (bits-of 0 0) (c .pre) (omega (arith, c .cells-a-end .ensures)) (c .subsets .result) (c .subsets .ensures) (c .if-a-s-eq0 .taken) .1
 
 pub loop-a-again : need.loop-a-again
 loop-a-again c =
@@ -31,10 +24,12 @@ loop-a-again c =
     let marks = bits-of (2 ^ r) (c .args .blank) in
     let ha : a < 2 ^ r = omega (arith, c .cells-a-end .ensures) in
     let inv = c .loop-a .inv in
+    let word = c .args .word in
+    let blank = c .args .blank in
     elim (c .if-a-s-eq0 .came) [
       | then-a-s-eq0 w ↦
-          let zeros = vote-free r range s a 0 cells marks (c .pre) ha _ _ _ (w .subsets .result) _ (w .if-a-s-eq0 .taken) (w .subsets .ensures) (w .speaks-zeros .ensures) (w .zeros-is) (inv .0, inv .2) in
-          let ones = vote-free r range s a 1 cells marks (c .pre) ha _ _ _ (w .subsets .result) _ (w .if-a-s-eq0 .taken) (w .subsets .ensures) (w .speaks-ones .ensures) (w .ones-is) (inv .1, inv .3) in
+          let zeros = vote-free r range s a 0 cells marks (c .pre) ha _ _ _ (w .subsets .result) _ (w .if-a-s-eq0 .taken) (w .subsets .ensures) (w .speaks-zeros .ensures ∙ voice-is (2 ^ r) 0 _ word blank (shifted r range s a 0 cells marks (c .pre) ha (w .subsets .result) (w .subsets .ensures) (w .if-a-s-eq0 .taken) .1)) (w .zeros-is) (inv .0, inv .2) in
+          let ones = vote-free r range s a 1 cells marks (c .pre) ha _ _ _ (w .subsets .result) _ (w .if-a-s-eq0 .taken) (w .subsets .ensures) (w .speaks-ones .ensures ∙ voice-is (2 ^ r) 1 _ word blank (shifted r range s a 1 cells marks (c .pre) ha (w .subsets .result) (w .subsets .ensures) (w .if-a-s-eq0 .taken) .1)) (w .ones-is) (inv .1, inv .3) in
           (zeros .0, ones .0, zeros .1, ones .1)
       | else-a-s-eq0 w ↦
           let zeros = vote-held r range s a 0 cells marks (c .pre) ha _ _ _ (w .if-a-s-eq0 .left) (w .zeros-is) (inv .0, inv .2) in
