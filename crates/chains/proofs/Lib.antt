@@ -9,6 +9,7 @@ pub mod Laying
 pub mod Masks
 pub mod MullerColumns
 pub mod MullerEstimates
+pub mod MullerExamples
 pub mod MullerLaw
 pub mod MullerSteps
 pub mod MullerTables

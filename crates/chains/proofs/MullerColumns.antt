@@ -41,10 +41,10 @@ counted-test test i k p e h =
     subst (λ (q : ℕ). test q ≡ true) (getD-counted i k p h)
     (all-getD (λ q. test q ≡ true) (counted i k) p 0 (omega (arith, length-counted i k)) (all-from-every test (λ q. test q ≡ true) (λ _ t. t) (counted i k) e))
 
-abbrev cells-test : ℕ → List ℕ → Bool
+abbrev pub cells-test : ℕ → List ℕ → Bool
 cells-test n xs = eqb (length xs) n && every (λ x. ltb x 2) xs
 
-cells-tell : (n : ℕ) (xs : List ℕ) → cells-test n xs ≡ true → Cells n xs
+pub cells-tell : (n : ℕ) (xs : List ℕ) → cells-test n xs ≡ true → Cells n xs
 cells-tell n xs e =
     let p = and-parts (eqb (length xs) n) (every (λ x. ltb x 2) xs) e in
     (eqb-true (length xs) n (p .0), all-from-every (λ x. ltb x 2) (λ x. x < 2) (λ x t. ltb-true x 2 t) xs (p .1))

@@ -17,7 +17,7 @@ use Rattle.chains.specs.Model.{Stage, Row, Cells, Labels-from, before, at-stag
 use Rattle.chains.specs.Promises.{Continues, Estimates}
 use Rattle.chains.specs.ReedMuller.{Muller-range, muller-widths, muller-word, muller-chain, order, row-bits}
 use Rattle.chains.specs.Refusals.{Reading-fits}
-use Rattle.chains.specs.Votes.{Column, column, columns, laid, settled, left-harm}
+use Rattle.chains.specs.Votes.{Column, column, columns, laid, left-harm, decided-bits, found-bits, found-harm}
 use Rattle.chains.proofs.FromLaw.{labels-append}
 use Rattle.chains.proofs.Laying.{zeros-cells, harm-laid, laid-append, word-laid}
 use Rattle.chains.proofs.Parity.{total-append}
@@ -45,7 +45,7 @@ module _ (r : ℕ) (range : Muller-range r) where
     ws = muller-widths r
 
     abbrev pub decided : List ℕ
-    decided = row-bits ws labels
+    decided = decided-bits r labels
 
     -- the bits that are left to find, the reading without the decided ones, and what the votes find
     abbrev pub open-columns : List Column
@@ -55,7 +55,7 @@ module _ (r : ℕ) (range : Muller-range r) where
     begun = laid (columns r) decided y
 
     abbrev pub found : List ℕ
-    found = settled open-columns begun m
+    found = found-bits r labels y m
 
     sizes : Muller-sizes r
     sizes = muller-sizes r range
@@ -102,14 +102,14 @@ module _ (r : ℕ) (range : Muller-range r) where
     abbrev pub later : List ℕ
     later = cut (drop (i - 1) ws) found
 
-    found-bits : row-bits (drop (i - 1) ws) later ≡ found
-    found-bits = row-bits-cut (drop (i - 1) ws) found (length-settled open-columns begun m ∙ length-open) (settled-small open-columns begun m)
+    later-bits : row-bits (drop (i - 1) ws) later ≡ found
+    later-bits = row-bits-cut (drop (i - 1) ws) found (length-settled open-columns begun m ∙ length-open) (settled-small open-columns begun m)
 
     abbrev pub final-harm : ℕ
-    final-harm = left-harm (laid open-columns found begun) m
+    final-harm = found-harm r labels y m
 
     final-is : harm y m (muller-word r (labels ++ later)) ≡ final-harm
-    final-is = left-is later ∙ ap (λ bs. left-harm (laid open-columns bs begun) m) found-bits
+    final-is = left-is later ∙ ap (λ bs. left-harm (laid open-columns bs begun) m) later-bits
 
     module _ (each : Labels-from (at-stage ws) 1 labels) where
       later-long : length later ≡ length (drop (i - 1) ws)

@@ -1,6 +1,7 @@
 pub mod Bits
 pub mod Derived
 pub mod Even
+pub mod Examples
 pub mod Model
 pub mod Promises
 pub mod ReedMuller

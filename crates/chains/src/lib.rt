@@ -3,5 +3,6 @@ pub mod chain;
 mod checks;
 pub mod derived;
 pub mod even;
+pub mod examples;
 pub mod reed_muller;
 mod tables;
