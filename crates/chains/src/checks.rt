@@ -12,7 +12,7 @@ use words::fault::Fault;
 use words::fault::Kind;
 use words::fault::Layer;
 
-pub fn check_stage(stages: usize, stage: usize) -> Result<(), Fault>
+pub(crate) fn check_stage(stages: usize, stage: usize) -> Result<(), Fault>
     ensures { λ r. ⌜ r ≡ checked (stage-refusal stages stage) ⌝ }
 {
     if 1 <= stage && stage <= stages {
@@ -55,7 +55,12 @@ fn check_labels(widths: &[u8], labels: &[u8]) -> Result<(), Fault>
 }
 
 /// Checks a whole row of labels, and the room for its word.
-pub fn check_row(breadth: usize, widths: &[u8], labels: &[u8], cells: &[u8]) -> Result<(), Fault>
+pub(crate) fn check_row(
+    breadth: usize,
+    widths: &[u8],
+    labels: &[u8],
+    cells: &[u8],
+) -> Result<(), Fault>
     requires { ⌜ All (λ w. w ≤ 8) (now widths) ⌝ }
     ensures { λ r. ⌜ r ≡ checked (word-refusal breadth (length (now (widths .entry))) (at-stage (now (widths .entry))) (now (labels .entry)) (now (cells .entry))) ⌝ }
 {
@@ -67,7 +72,7 @@ pub fn check_row(breadth: usize, widths: &[u8], labels: &[u8], cells: &[u8]) -> 
 }
 
 /// Checks a stage, the labels decided before it, and a reading.
-pub fn check_reading(
+pub(crate) fn check_reading(
     breadth: usize,
     widths: &[u8],
     stage: usize,

@@ -97,7 +97,7 @@ static SUBSETS: [u16; 16] = [
 ];
 
 /// The label widths of the stages.
-pub fn widths(r: usize) -> &'static [u8]
+pub(crate) fn widths(r: usize) -> &'static [u8]
     requires { ⌜ Muller-range r ⌝ }
     ensures { λ ws. ⌜ now ws ≡ muller-widths r ⌝ }
 {
@@ -106,7 +106,7 @@ pub fn widths(r: usize) -> &'static [u8]
 }
 
 /// The number of the bit at place t of a row's bits.
-pub fn number(r: usize, t: usize) -> usize
+pub(crate) fn number(r: usize, t: usize) -> usize
     requires { ⌜ Muller-range r ⌝ ∗ ⌜ t < 2 ^ r ⌝ }
     ensures is { λ s. ⌜ s ≡ getD (order r) t 0 ⌝ }
     ensures small { λ s. ⌜ s < 2 ^ r ⌝ }
@@ -115,7 +115,7 @@ pub fn number(r: usize, t: usize) -> usize
 }
 
 /// The numbers that have no one outside those of s, as a set of bits.
-pub fn subsets(s: usize) -> u16
+pub(crate) fn subsets(s: usize) -> u16
     requires { ⌜ s < 16 ⌝ }
     ensures { λ set. ⌜ set ≡ subsets s ⌝ }
 {
