@@ -1,3 +1,5 @@
+pub mod Codewords
+pub mod Counts
 pub mod Complete
 pub mod Steps
 pub mod Numbers
