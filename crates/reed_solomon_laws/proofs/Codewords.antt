@@ -47,9 +47,6 @@ pub row-is : (n : ℕ) (v : ℕ → ℕ) (xs : List ℕ) → length xs ≡ n →
 row-is n v xs l h = ext-getD 0 xs (row n v) (l ∙ sym (length-row n v)) (λ j m. let i : j < n = omega arith in h j i ∙ sym (getD-row n v j i))
 
 module _ (f : Field-model) (laws : Field-laws f) where
-  F : Field
-  F = field-of f laws
-
   -- Newton's step, with the numbers that the program works out
   module _ (n : ℕ) (small : n ≤ size f) (C D : ℕ → Type 0) (y v p v′ p′ : ℕ → ℕ) (k x i : ℕ) where
     pub numbers-more : x < n → y x < size f → Elements f n v → Elements f n p → f .reciprocal (p x) ≡ Some i →
@@ -58,9 +55,12 @@ module _ (f : Field-model) (laws : Field-laws f) where
         ((j : ℕ) → j < n → (C j ⊎ (j ≡ x)) ↔ D j) → ¬ C x →
         Newton (field-of f laws) (element f laws) n C (λ j. element f laws (y j)) k (λ j. element f laws (v j)) (λ j. element f laws (p j)) →
         Newton (field-of f laws) (element f laws) n D (λ j. element f laws (y j)) (k + 1) (λ j. element f laws (v′ j)) (λ j. element f laws (p′ j)) × Elements f n v′ × Elements f n p′
-    numbers-more within yx bv bp there v-is p-is chosen new s =
-        (newton-same G at n (λ j. C j ⊎ (j ≡ x)) D Y (k + 1) (next-interpolant G Y V P x) (λ j. at (v′ j)) (next-product G at P x) (λ j. at (p′ j)) chosen same-v same-p
-            (newton-more G at n C Y k V P s x within new (places-apart f laws n small)), below-v, below-p)
+    numbers-more within yx bv bp there v-is p-is chosen new s = (
+      newton-same G at n (λ j. C j ⊎ (j ≡ x)) D Y (k + 1) (next-interpolant G Y V P x) (λ j. at (v′ j)) (next-product G at P x) (λ j. at (p′ j)) chosen same-v same-p
+          (newton-more G at n C Y k V P s x within new (places-apart f laws n small)),
+      below-v,
+      below-p,
+    )
       where
         G : Field
         G = field-of f laws
@@ -99,19 +99,19 @@ module _ (f : Field-model) (laws : Field-laws f) where
 
         same-v : (j : ℕ) → j < n → next-interpolant G Y V P x j ≡ at (v′ j)
         same-v j l = sym (
-          ap at (v-is j l)
-          ∙ element-sum f laws (v j) (f .product c (p j)) (bv j l) (laws .product-below c (p j) c-below (bp j l))
-          ∙ ap (sum-of f laws (at (v j))) (element-product f laws c (p j) c-below (bp j l) ∙ ap (λ (d : Element f). product-of f laws d (at (p j))) c-is)
-        )
+            ap at (v-is j l)
+            ∙ element-sum f laws (v j) (f .product c (p j)) (bv j l) (laws .product-below c (p j) c-below (bp j l))
+            ∙ ap (sum-of f laws (at (v j))) (element-product f laws c (p j) c-below (bp j l) ∙ ap (λ (d : Element f). product-of f laws d (at (p j))) c-is)
+            )
 
         same-p : (j : ℕ) → j < n → next-product G at P x j ≡ at (p′ j)
         same-p j l =
             let lj : j < size f = omega arith in
             let lx : x < size f = omega arith in
             sym (
-              ap at (p-is j l)
-              ∙ element-product f laws (f .sum j x) (p j) (laws .sum-below j x lj lx) (bp j l)
-              ∙ ap (λ (d : Element f). product-of f laws d (at (p j))) (element-sum f laws j x lj lx)
+            ap at (p-is j l)
+            ∙ element-product f laws (f .sum j x) (p j) (laws .sum-below j x lj lx) (bp j l)
+            ∙ ap (λ (d : Element f). product-of f laws d (at (p j))) (element-sum f laws j x lj lx)
             )
 
         below-v : Elements f n v′
@@ -145,9 +145,88 @@ module _ (f : Field-model) (laws : Field-laws f) where
       let t = laws .some-of-others (p k) (before .2 k lk) nonzero in
       let i-is : valueOr (f .reciprocal (p k)) 0 ≡ t .0 = ap (λ o. valueOr o 0) (t .2) in
       let step = numbers-more n small (λ j. j < k) (λ j. j < suc k) y v p (through f y (suc k) .0) (through f y (suc k) .1) k k (t .0)
-          lk (by k (omega arith)) (before .1) (before .2) (t .2)
-          (λ j l. ap (λ i. f .sum (v j) (f .product (f .product (f .sum (y k) (v k)) i) (p j))) i-is)
-          (λ j l. refl)
-          (λ j l. (elim [ inl h ↦ omega arith | inr e ↦ omega arith ], λ h. elim (decLt j k) [ yes b ↦ inl b | no b ↦ inr (omega arith) ]))
-          (λ h. omega arith) (before .0) in
+      lk (by k (omega arith)) (before .1) (before .2) (t .2)
+      (λ j l. ap (λ i. f .sum (v j) (f .product (f .product (f .sum (y k) (v k)) i) (p j))) i-is)
+      (λ j l. refl)
+      (λ j l. (elim [ inl h ↦ omega arith | inr e ↦ omega arith ], λ h. elim (decLt j k) [ yes b ↦ inl b | no b ↦ inr (omega arith) ]))
+      (λ h. omega arith) (before .0) in
       (subst (λ m. Newton (field-of f laws) (element f laws) n (λ j. j < suc k) (λ j. element f laws (y j)) m (λ j. element f laws (through f y (suc k) .0 j)) (λ j. element f laws (through f y (suc k) .1 j))) (add-one k) (step .0), step .1, step .2)
+
+  -- a polynomial over the elements, as numbers, and with as many coefficients as wanted
+  value-number : (cs : List (Element f)) (x : Element f) → poly.value (ring-of f laws) cs x .0 ≡ value f (map (λ (c : Element f). c .0) cs) (x .0)
+  value-number [] x = refl
+  value-number (c ∷ cs) x = ap (λ a. f .sum (c .0) (f .product (x .0) a)) (value-number cs x)
+
+  value-zeros : (m : ℕ) (x : Element f) → poly.value (ring-of f laws) (replicate m (zero-of f laws)) x ≡ zero-of f laws
+  value-zeros zero x = refl
+  value-zeros (suc m) x =
+      ap (λ (a : Element f). sum-of f laws (zero-of f laws) (product-of f laws x a)) (value-zeros m x)
+      ∙ ap (sum-of f laws (zero-of f laws)) (mul-zero (ring-of f laws) x)
+      ∙ add-zero (ring-of f laws) (zero-of f laws)
+
+  value-padded : (cs : List (Element f)) (m : ℕ) (x : Element f) → poly.value (ring-of f laws) (cs ++ replicate m (zero-of f laws)) x ≡ poly.value (ring-of f laws) cs x
+  value-padded [] m x = value-zeros m x
+  value-padded (c ∷ cs) m x = ap (λ (a : Element f). sum-of f laws c (product-of f laws x a)) (value-padded cs m x)
+
+  all-numbers : (cs : List (Element f)) → All (λ a. a < size f) (map (λ (c : Element f). c .0) cs)
+  all-numbers [] = tt
+  all-numbers (c ∷ cs) = (c .1, all-numbers cs)
+
+  value-below : (cs : List ℕ) → All (λ a. a < size f) cs → (z : ℕ) → z < size f → value f cs z < size f
+  value-below [] a z l = zero-of f laws .1
+  value-below (c ∷ cs) a z l = laws .sum-below c (f .product z (value f cs z)) (a .0) (laws .product-below z (value f cs z) l (value-below cs (a .1) z l))
+
+  value-elements : (cs : List ℕ) → All (λ a. a < size f) cs → (z : ℕ) → z < size f → poly.value (ring-of f laws) (map (element f laws) cs) (element f laws z) ≡ element f laws (value f cs z)
+  value-elements [] a z l = sym (element-zero f laws)
+  value-elements (c ∷ cs) a z l =
+      ap (λ (b : Element f). sum-of f laws (element f laws c) (product-of f laws (element f laws z) b)) (value-elements cs (a .1) z l)
+      ∙ ap (sum-of f laws (element f laws c)) (sym (element-product f laws z (value f cs z) l (value-below cs (a .1) z l)))
+      ∙ sym (element-sum f laws c (f .product z (value f cs z)) (a .0) (laws .product-below z (value f cs z) l (value-below cs (a .1) z l)))
+
+  module _ (n : ℕ) (small : n ≤ size f) (k : ℕ) where
+    pub codeword-from : (v : ℕ → ℕ) → Elements f n v → Polynomial (ring-of f laws) (element f laws) n k (λ j. element f laws (v j)) → Codeword f n k (row n v)
+    codeword-from v b p = (
+      map (λ (c : Element f). c .0) padded,
+      (length-map padded (λ (c : Element f). c .0) ∙ length-append (p .coefficients) (replicate (k - length (p .coefficients)) (zero-of f laws)) ∙ omega (arith, length-replicate (k - length (p .coefficients)) (zero-of f laws), p .short), all-numbers padded),
+      row-is n (value f (map (λ (c : Element f). c .0) padded)) (row n v) (length-row n v) (λ j l. getD-row n v j l ∙ at j l),
+    )
+      where
+        padded : List (Element f)
+        padded = p .coefficients ++ replicate (k - length (p .coefficients)) (zero-of f laws)
+
+        at : (j : ℕ) → j < n → v j ≡ value f (map (λ (c : Element f). c .0) padded) j
+        at j l =
+            let lj : j < size f = omega arith in
+            sym (
+            ap (value f (map (λ (c : Element f). c .0) padded)) (sym (element-is f laws j lj))
+            ∙ sym (value-number padded (element f laws j))
+            ∙ ap (λ (x : Element f). x .0) (value-padded (p .coefficients) (k - length (p .coefficients)) (element f laws j) ∙ p .values j l)
+            ∙ element-is f laws (v j) (b j l)
+            )
+
+    pub codeword-polynomial : (w : List ℕ) → Codeword f n k w → Polynomial (ring-of f laws) (element f laws) n k (λ j. element f laws (getD w j 0))
+    codeword-polynomial w c = record {
+      coefficients = map (element f laws) (c .0);
+      short = omega (arith, length-map (c .0) (element f laws), c .1 .0);
+      values = λ j l.
+          let lj : j < size f = omega arith in
+          value-elements (c .0) (c .1 .1) j lj ∙ ap (element f laws) (sym (ap (λ xs. getD xs j 0) (c .2) ∙ getD-row n (value f (c .0)) j l));
+    }
+
+    pub codeword-elements : (w : List ℕ) → Codeword f n k w → (length w ≡ n) × Elements f n (λ j. getD w j 0)
+    codeword-elements w c = (
+      ap length (c .2) ∙ length-row n (value f (c .0)),
+      λ j l. let lj : j < size f = omega arith in
+          subst (λ (a : ℕ). a < size f) (sym (ap (λ xs. getD xs j 0) (c .2) ∙ getD-row n (value f (c .0)) j l)) (value-below (c .0) (c .1 .1) j lj),
+    )
+
+    -- codewords that agree at k places, by any choice, are equal
+    pub same-codewords : (w x : List ℕ) → Codeword f n k w → Codeword f n k x → k ≤ count (λ j. eqb (getD w j 0) (getD x j 0)) n → w ≡ x
+    same-codewords w x cw cx many =
+        let ew = codeword-elements w cw in
+        let ex = codeword-elements x cx in
+        ext-getD 0 w x (ew .0 ∙ sym (ex .0))
+        (λ j l. let lj : j < n = omega (arith, ew .0) in
+        same-number f laws (getD w j 0) (getD x j 0) (ew .1 j lj) (ex .1 j lj)
+        (same-at-places (field-of f laws) (element f laws) n (places-apart f laws n small) k (λ j. element f laws (getD w j 0)) (λ j. element f laws (getD x j 0)) (codeword-polynomial w cw) (codeword-polynomial x cx)
+        (omega (arith, many, count-same (λ j. same (field-of f laws) (element f laws (getD w j 0)) (element f laws (getD x j 0))) (λ j. eqb (getD w j 0) (getD x j 0)) n (λ i m. same-numbers f laws (getD w i 0) (getD x i 0) (ew .1 i m) (ex .1 i m)))) j lj))

@@ -27,7 +27,6 @@ module _ (F : Field) (place : ℕ → F .ring .carrier) (n : ℕ) (apart : Injec
       (poly-s : Polynomial (F .ring) place n k s)
       (key : (j : ℕ) → j < n → readable j ≡ true → mul (p j) (q j) ≡ mul (add (y j) (g j)) (e j))
       (near : b + k ≤ count (λ j. readable j && same F (y j) (s j)) n) where
-
     excess : ℕ → carrier
     excess j = add (mul (q j) (p j)) (mul (e j) (add (s j) (g j)))
 

@@ -1,3 +1,4 @@
+pub mod Laws
 pub mod Codewords
 pub mod Counts
 pub mod Complete

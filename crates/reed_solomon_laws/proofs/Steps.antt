@@ -55,8 +55,8 @@ module _ (F : Field) (place : ℕ → F .ring .carrier) (n : ℕ) (t : ℕ → F
       Pair F place n t P q e b c → Pair F place n t P u w b′ c′ →
       (gap F place n t u w x ≡ 𝟎) ⊎ ((b ≤ b′) × (c ≤ c′)) →
       Pair F place n t (λ j. P j ⊎ (j ≡ x))
-          (combined F (gap F place n t q e x) u (gap F place n t u w x) q)
-          (combined F (gap F place n t q e x) w (gap F place n t u w x) e) b′ c′
+      (combined F (gap F place n t q e x) u (gap F place n t u w x) q)
+      (combined F (gap F place n t q e x) w (gap F place n t u w x) e) b′ c′
   other-more P q e u w b c b′ c′ x pivot other fits = record {
     top = polynomial-add (F .ring) place n (λ j. mul d (u j)) (λ j. mul d′ (q j)) b′
         (polynomial-scale (F .ring) place n b′ d u (other .top))
