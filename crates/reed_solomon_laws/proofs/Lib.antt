@@ -1,3 +1,4 @@
+pub mod State
 pub mod Laws
 pub mod Codewords
 pub mod Counts
