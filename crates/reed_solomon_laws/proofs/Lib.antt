@@ -1,3 +1,5 @@
+pub mod Keying
+pub mod Arrays
 pub mod State
 pub mod Laws
 pub mod Codewords
