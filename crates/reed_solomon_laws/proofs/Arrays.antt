@@ -104,8 +104,10 @@ module _ (f : Field-model) (laws : Field-laws f) (n wanted : ℕ) (small : n ≤
         step : (laws : Field-laws f) → Newton (field-of f laws) (element f laws) n (Chosen skip wanted (x + 1)) (at f laws symbols) (taken + 1) (at f laws v′) (at f laws p′) × Below f n v′ × Below f n p′
         step laws = numbers-more f laws n small (Chosen skip wanted x) (Chosen skip wanted (x + 1)) (λ j. getD symbols j 0) (λ j. getD v j 0) (λ j. getD p j 0) (λ j. getD v′ j 0) (λ j. getD p′ j 0) taken x (done .0)
             within symbol (s .v-below) (s .p-below) (done .1) (done .2) (done .3)
-            (λ j l. (elim [ inl c ↦ (omega (arith, c .0), c .1) | inr e ↦ (omega arith, ap (early (readable skip) wanted) e ∙ here) ],
-              λ c. elim (decLt j x) [ yes b ↦ inl (b, c .1) | no b ↦ inr (omega (arith, c .0)) ]))
+            (λ j l. (
+              elim [ inl c ↦ (omega (arith, c .0), c .1) | inr e ↦ (omega arith, ap (early (readable skip) wanted) e ∙ here) ],
+              λ c. elim (decLt j x) [ yes b ↦ inl (b, c .1) | no b ↦ inr (omega (arith, c .0)) ],
+            ))
             (λ c. omega (arith, c .0)) (s .newton laws)
 
 -- a readable place outside the first choice

@@ -98,11 +98,11 @@ module _ (f : Field-model) (laws : Field-laws f) (n : ℕ) (small : n ≤ size f
           ((j : ℕ) → j < n → getD u′ j 0 ≡ f .sum (f .product a (getD u j 0)) (f .product b (getD q j 0))) →
           (j : ℕ) → j < n → combined (field-of f laws) c (at f laws u) d (at f laws q) j ≡ at f laws u′ j
       combined-is a b c d u q u′ la lb ea eb bu bq is j l = sym (
-        ap (element f laws) (is j l)
-        ∙ element-sum f laws (f .product a (getD u j 0)) (f .product b (getD q j 0)) (laws .product-below _ _ la (bu j l)) (laws .product-below _ _ lb (bq j l))
-        ∙ ap₂ (sum-of f laws) (element-product f laws a (getD u j 0) la (bu j l) ∙ ap (λ (r : Element f). product-of f laws r (at f laws u j)) ea)
-            (element-product f laws b (getD q j 0) lb (bq j l) ∙ ap (λ (r : Element f). product-of f laws r (at f laws q j)) eb)
-      )
+          ap (element f laws) (is j l)
+          ∙ element-sum f laws (f .product a (getD u j 0)) (f .product b (getD q j 0)) (laws .product-below _ _ la (bu j l)) (laws .product-below _ _ lb (bq j l))
+          ∙ ap₂ (sum-of f laws) (element-product f laws a (getD u j 0) la (bu j l) ∙ ap (λ (r : Element f). product-of f laws r (at f laws u j)) ea)
+          (element-product f laws b (getD q j 0) lb (bq j l) ∙ ap (λ (r : Element f). product-of f laws r (at f laws q j)) eb)
+          )
 
       rooted-is : (q q′ : List ℕ) → Below f n q → ((j : ℕ) → j < n → getD q′ j 0 ≡ f .product (f .sum j x) (getD q j 0)) →
           (j : ℕ) → j < n → rooted (field-of f laws) (element f laws) x (at f laws q) j ≡ at f laws q′ j
@@ -110,9 +110,9 @@ module _ (f : Field-model) (laws : Field-laws f) (n : ℕ) (small : n ≤ size f
           let lj : j < size f = omega arith in
           let lx : x < size f = omega arith in
           sym (
-            ap (element f laws) (is j l)
-            ∙ element-product f laws (f .sum j x) (getD q j 0) (laws .sum-below j x lj lx) (bq j l)
-            ∙ ap (λ (r : Element f). product-of f laws r (at f laws q j)) (element-sum f laws j x lj lx)
+          ap (element f laws) (is j l)
+          ∙ element-product f laws (f .sum j x) (getD q j 0) (laws .sum-below j x lj lx) (bq j l)
+          ∙ ap (λ (r : Element f). product-of f laws r (at f laws q j)) (element-sum f laws j x lj lx)
           )
 
       combined-below : (a b : ℕ) (u q u′ : List ℕ) → a < size f → b < size f → Below f n u → Below f n q → ((j : ℕ) → j < n → getD u′ j 0 ≡ f .sum (f .product a (getD u j 0)) (f .product b (getD q j 0))) → Below f n u′
@@ -125,9 +125,10 @@ module _ (f : Field-model) (laws : Field-laws f) (n : ℕ) (small : n ≤ size f
           subst (λ (r : ℕ). r < size f) (sym (is j l)) (laws .product-below _ _ (laws .sum-below j x lj lx) (bq j l))
 
       here-too : passes marks p x ≡ true → (j : ℕ) → j < n → (Passed marks p x j ⊎ (j ≡ x)) ↔ Passed marks p (x + 1) j
-      here-too here j l =
-          (elim [ inl c ↦ (omega (arith, c .0), c .1) | inr e ↦ (omega arith, ap (passes marks p) e ∙ here) ],
-            λ c. elim (decLt j x) [ yes b ↦ inl (b, c .1) | no b ↦ inr (omega (arith, c .0)) ])
+      here-too here j l = (
+        elim [ inl c ↦ (omega (arith, c .0), c .1) | inr e ↦ (omega arith, ap (passes marks p) e ∙ here) ],
+        λ c. elim (decLt j x) [ yes b ↦ inl (b, c .1) | no b ↦ inr (omega (arith, c .0)) ],
+      )
 
       one-more : passes marks p x ≡ true → count (passes marks p) (x + 1) ≡ count (passes marks p) x + 1
       one-more here = ap (λ m. count (passes marks p) m) (add-one x) ∙ (rw here refl)

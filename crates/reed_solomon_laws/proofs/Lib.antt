@@ -1,3 +1,4 @@
+pub mod Nearest
 pub mod Keying
 pub mod Arrays
 pub mod State

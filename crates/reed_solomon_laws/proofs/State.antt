@@ -47,7 +47,7 @@ module _ (F : Field) (place : ℕ → F .ring .carrier) (n : ℕ) (t : ℕ → F
 
     pub first-pivot : gap F place n t q₀ e₀ x ≢ 𝟎 → (gap F place n t q₁ e₁ x ≡ 𝟎) ⊎ (b₀ ≤ b₁) →
         State F place n t (λ j. P j ⊎ (j ≡ x)) (rooted F place x q₀) (rooted F place x e₀)
-            (combined F (gap F place n t q₀ e₀ x) q₁ (gap F place n t q₁ e₁ x) q₀) (combined F (gap F place n t q₀ e₀ x) e₁ (gap F place n t q₁ e₁ x) e₀) (b₀ + 1) b₁
+        (combined F (gap F place n t q₀ e₀ x) q₁ (gap F place n t q₁ e₁ x) q₀) (combined F (gap F place n t q₀ e₀ x) e₁ (gap F place n t q₁ e₁ x) e₀) (b₀ + 1) b₁
     first-pivot misses fits = record {
       pair₀ = pivot-more F place n t P q₀ e₀ b₀ b₀ x (s .pair₀);
       pair₁ = other-more F place n t P q₀ e₀ q₁ e₁ b₀ b₀ b₁ (b₁ + 1) x (s .pair₀) (s .pair₁) (elim fits [ inl z ↦ inl z | inr h ↦ inr (h, omega arith) ]);
@@ -56,8 +56,8 @@ module _ (F : Field) (place : ℕ → F .ring .carrier) (n : ℕ) (t : ℕ → F
 
     pub second-pivot : gap F place n t q₁ e₁ x ≢ 𝟎 → (gap F place n t q₀ e₀ x ≡ 𝟎) ⊎ (b₁ < b₀) →
         State F place n t (λ j. P j ⊎ (j ≡ x))
-            (combined F (gap F place n t q₁ e₁ x) q₀ (gap F place n t q₀ e₀ x) q₁) (combined F (gap F place n t q₁ e₁ x) e₀ (gap F place n t q₀ e₀ x) e₁)
-            (rooted F place x q₁) (rooted F place x e₁) b₀ (b₁ + 1)
+        (combined F (gap F place n t q₁ e₁ x) q₀ (gap F place n t q₀ e₀ x) q₁) (combined F (gap F place n t q₁ e₁ x) e₀ (gap F place n t q₀ e₀ x) e₁)
+        (rooted F place x q₁) (rooted F place x e₁) b₀ (b₁ + 1)
     second-pivot misses fits = record {
       pair₀ = other-more F place n t P q₁ e₁ q₀ e₀ b₁ (b₁ + 1) b₀ b₀ x (s .pair₁) (s .pair₀) (elim fits [ inl z ↦ inl z | inr h ↦ inr (omega arith, omega arith) ]);
       pair₁ = pivot-more F place n t P q₁ e₁ b₁ (b₁ + 1) x (s .pair₁);
