@@ -149,3 +149,21 @@ pub record Located (f : Field-model) (n : ℕ) (word marks g p e : List ℕ) : T
   pub b : ℕ
   pub short : 2 * b ≤ 1 + count (passes marks p) n
   pub solved : (laws : Field-laws f) → Solved (field-of f laws) (element f laws) n (target f laws word g p) (Passed marks p n) (at f laws q) (at f laws e) b
+
+-- the same arrays by other names
+pub interpolated-at : {f : Field-model} {n wanted : ℕ} {symbols skip : List ℕ} {x : ℕ} {v v′ p p′ : List ℕ} {taken taken′ : ℕ} → v′ ≡ v → p′ ≡ p → taken′ ≡ taken →
+    Interpolated f n wanted symbols skip x v p taken → Interpolated f n wanted symbols skip x v′ p′ taken′
+interpolated-at {f} {n} {wanted} {symbols} {skip} {x} {v} {v′} {p} {p′} {taken} {taken′} ev ep et s =
+    subst (λ (a : List ℕ). Interpolated f n wanted symbols skip x a p′ taken′) (sym ev)
+    (subst (λ (a : List ℕ). Interpolated f n wanted symbols skip x v a taken′) (sym ep) (subst (λ (a : ℕ). Interpolated f n wanted symbols skip x v p a) (sym et) s))
+
+pub keyed-at : {f : Field-model} {n : ℕ} {word marks g p : List ℕ} {x : ℕ} {q₀ e₀ q₁ e₁ q₀′ e₀′ q₁′ e₁′ : List ℕ} {b₀ b₁ b₀′ b₁′ : ℕ} →
+    q₀′ ≡ q₀ → e₀′ ≡ e₀ → q₁′ ≡ q₁ → e₁′ ≡ e₁ → b₀′ ≡ b₀ → b₁′ ≡ b₁ →
+    Keyed f n word marks g p x q₀ e₀ q₁ e₁ b₀ b₁ → Keyed f n word marks g p x q₀′ e₀′ q₁′ e₁′ b₀′ b₁′
+keyed-at {f} {n} {word} {marks} {g} {p} {x} {q₀} {e₀} {q₁} {e₁} {q₀′} {e₀′} {q₁′} {e₁′} {b₀} {b₁} {b₀′} {b₁′} iq₀ ie₀ iq₁ ie₁ ib₀ ib₁ s =
+    subst (λ (a : List ℕ). Keyed f n word marks g p x a e₀′ q₁′ e₁′ b₀′ b₁′) (sym iq₀)
+    (subst (λ (a : List ℕ). Keyed f n word marks g p x q₀ a q₁′ e₁′ b₀′ b₁′) (sym ie₀)
+    (subst (λ (a : List ℕ). Keyed f n word marks g p x q₀ e₀ a e₁′ b₀′ b₁′) (sym iq₁)
+    (subst (λ (a : List ℕ). Keyed f n word marks g p x q₀ e₀ q₁ a b₀′ b₁′) (sym ie₁)
+    (subst (λ (a : ℕ). Keyed f n word marks g p x q₀ e₀ q₁ e₁ a b₁′) (sym ib₀)
+    (subst (λ (a : ℕ). Keyed f n word marks g p x q₀ e₀ q₁ e₁ b₀ a) (sym ib₁) s)))))

@@ -1,3 +1,4 @@
+pub mod Rewriting
 pub mod Nearest
 pub mod Keying
 pub mod Arrays

@@ -7,7 +7,7 @@ use Prim.Native.Nat.{ℕ, suc, min, _+_, _-_, _*_, _≤_, _<_}
 use native.Mathlib.Omega.{arith}
 use lib.Dec.{eqb, ltb}
 use lib.ListN.{length, getD}
-use Rattle.std.proofs.shelf.Tests.{cases-bool, eqb-true, eqb-false, eq-eqb, and-parts, and-from, true≢false, not-from-true, not-from-false, not-true}
+use Rattle.std.proofs.shelf.Tests.{cases-bool, lt-ltb, eqb-true, eqb-false, eq-eqb, and-parts, and-from, true≢false, not-from-true, not-from-false, not-true}
 use Rattle.algebra.specs.Field.{Ring, Field, same}
 use Rattle.algebra.specs.Newton.{Newton}
 use Rattle.algebra.specs.Places.{Polynomial}
@@ -15,11 +15,14 @@ use Rattle.algebra.specs.Ring.{𝟘, 𝟙, _⊕_, _⊗_}
 use Rattle.algebra.specs.Sums.{count}
 use Rattle.algebra.proofs.Field.{mul-zero, zero-mul, zero-from-same}
 use Rattle.algebra.proofs.Ring.{by-ring}
-use Rattle.algebra.proofs.Sums.{count-mono, count-split, count-found}
+use Rattle.algebra.proofs.Sums.{count-all, count-mono, count-split, count-found}
 use Rattle.field_laws.specs.Fields.{Field-model, Field-laws, size}
 use Rattle.field_laws.proofs.Elements.{Element, zero-of, one-of, sum-of, product-of, ring-of, field-of}
 use Rattle.words.specs.Harm.{harm}
-use Rattle.reed_solomon_laws.specs.Words.{row, Codeword, In-kind}
+use Rattle.codes.specs.Model.{Code-model, Symbols}
+use Rattle.std.proofs.shelf.Elements.{all-getD}
+use Rattle.reed_solomon_laws.specs.Words.{row, Codeword, In-kind, reed-solomon}
+use Rattle.reed_solomon_laws.proofs.Laws.{the-codeword}
 use Rattle.reed_solomon_laws.proofs.Arrays.{at, Below, Chosen, Interpolated, passes, Passed, target, Located}
 use Rattle.reed_solomon_laws.proofs.Codewords.{Elements, row-is, codeword-from, codeword-polynomial, codeword-elements, same-codewords}
 use Rattle.reed_solomon_laws.proofs.Complete.{right-where, enough-right}
@@ -28,10 +31,27 @@ use Rattle.reed_solomon_laws.proofs.Numbers.{element, element-zero, not-zero, 
 
 module _ (f : Field-model) (laws : Field-laws f) (n k : ℕ) (kind : In-kind f n k) (word : List ℕ) where
   -- an interpolation through enough places is a codeword
-  pub interpolated-codeword : (skip v p : List ℕ) (taken : ℕ) → length v ≡ n → Interpolated f n k word skip n v p taken → taken ≡ k → Codeword f n k v
-  interpolated-codeword skip v p taken long s enough =
+  pub interpolated-codeword : (skip : List ℕ) (x : ℕ) (v p : List ℕ) (taken : ℕ) → length v ≡ n → Interpolated f n k word skip x v p taken → taken ≡ k → Codeword f n k v
+  interpolated-codeword skip x v p taken long s enough =
       subst (Codeword f n k) (sym (row-is n (λ j. getD v j 0) v long (λ j l. refl)))
       (codeword-from f laws n (kind .0) k (λ j. getD v j 0) (s .v-below) (subst (λ (m : ℕ). Polynomial (ring-of f laws) (element f laws) n m (at f laws v)) enough (s .newton laws .interpolant)))
+
+  -- an interpolation through the first k places gives the codeword of what stands there
+  pub interpolated-first : (skip v p : List ℕ) (taken : ℕ) → length v ≡ n → Symbols (f .width) k word → ((j : ℕ) → j < k → getD skip j 0 ≡ 0) →
+      Interpolated f n k word skip k v p taken → v ≡ reed-solomon f n k .codeword word
+  interpolated-first skip v p taken long symbols none s =
+      the-codeword f laws n k kind word v symbols (interpolated-codeword skip k v p taken long s (s .taken-is ∙ enough))
+      (λ j l. let ln : j < n = omega (arith, kind .2) in
+          same-number f laws (getD v j 0) (getD word j 0) (s .v-below j ln) (all-getD (λ x. x < size f) word j 0 (omega (arith, symbols .0)) (symbols .1)) (s .newton laws .takes j ln (l, all-early j l)))
+    where
+      all-readable : (j : ℕ) → j ≤ k → count (readable skip) j ≡ j
+      all-readable j l = count-all (readable skip) j (λ i m. eq-eqb (getD skip i 0) 0 (none i (omega arith)))
+
+      all-early : (j : ℕ) → j < k → early (readable skip) k j ≡ true
+      all-early j l = and-from (readable skip j) _ (eq-eqb (getD skip j 0) 0 (none j l)) (lt-ltb (count (readable skip) j) k (omega (arith, all-readable j (omega arith))))
+
+      enough : count (early (readable skip) k) k ≡ k
+      enough = count-all (early (readable skip) k) k all-early
 
   module _ (word-below : Below f n word) (length-word : length word ≡ n) (marks : List ℕ) (length-marks : length marks ≡ n)
       (w : List ℕ) (codeword : Codeword f n k w) (near : harm word marks w < n - k + 1) where
@@ -150,7 +170,7 @@ module _ (f : Field-model) (laws : Field-laws f) (n k : ℕ) (kind : In-kind f n
         pub found-again : (skip v p′ : List ℕ) (taken′ : ℕ) → length v ≡ n →
             ((j : ℕ) → j < n → readable skip j ≡ (readable marks j && not (eqb (getD e j 0) 0))) →
             Interpolated f n k word skip n v p′ taken′ → (taken′ ≡ k) × (v ≡ w)
-        found-again skip v p′ taken′ long skip-is again = (enough, same-codewords f laws n (kind .0) k v w (interpolated-codeword skip v p′ taken′ long again enough) codeword agree)
+        found-again skip v p′ taken′ long skip-is again = (enough, same-codewords f laws n (kind .0) k v w (interpolated-codeword skip n v p′ taken′ long again enough) codeword agree)
           where
             enough : taken′ ≡ k
             enough = omega (arith, again .taken-is, count-early (readable skip) k n, enough-there, count-same (readable skip) (λ j. readable marks j && not (eqb (getD e j 0) 0)) n skip-is)

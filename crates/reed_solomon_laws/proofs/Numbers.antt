@@ -6,6 +6,7 @@ use Prim.Native.Nat.{ℕ, zero, suc, _+_, _≤_, _<_}
 use native.Mathlib.Decide.{decLt}
 use native.Mathlib.Omega.{arith}
 use lib.Dec.{eqb}
+use lib.Pow.{pow-mono}
 use Rattle.std.specs.Options.{valueOr}
 use Rattle.std.specs.declared.option.Option.the-variants.{Some, None}
 use Rattle.algebra.specs.Field.{Ring, Field, same}
@@ -16,6 +17,9 @@ use Rattle.field_laws.proofs.Elements.{Element, element-path, zero-of, one-of, 
 use Rattle.std.proofs.shelf.Tests.{eqb-true, eq-eqb, ne-eqb, eqb-false, cases-bool}
 
 module _ (f : Field-model) (laws : Field-laws f) where
+  pub size-most : size f ≤ 256
+  size-most = pow-mono {i = f .width} {j = 8} (laws .width-most)
+
   element-by : (a : ℕ) → Dec (a < size f) → Element f
   element-by a (yes h) = (a, h)
   element-by a (no h) = zero-of f laws

@@ -1,0 +1,5 @@
+// Reed-Solomon codes over any field: the codewords are the values of polynomials of degree below K at the first N elements.
+mod elements;
+mod interpolation;
+mod key_equation;
+mod passes;
