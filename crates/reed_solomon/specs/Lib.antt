@@ -1,1 +1,3 @@
+pub mod Making
+pub mod Finding
 pub mod Passes

@@ -15,7 +15,13 @@ use fields::field::Field;
 use words::fault::Fault;
 
 /// Brings v to a symbol at x by a multiple of p, which vanishes at the places taken before, and makes x a root of p too.
-fn take_place<F: Field>(field: &F, x: usize, symbol: u8, v: &mut [u8], p: &mut [u8]) -> Result<(), Fault>
+fn take_place<F: Field>(
+    field: &F,
+    x: usize,
+    symbol: u8,
+    v: &mut [u8],
+    p: &mut [u8],
+) -> Result<(), Fault>
     requires { ⌜ sound (now field) ⌝ ∗ ⌜ x < length (now p) ⌝ ∗ ⌜ length (now p) ≤ size-of (model (now field)) ⌝ ∗ ⌜ symbol < size-of (model (now field)) ⌝ ∗ ⌜ Beside (model (now field)) (now p) (now v) × (getD (now p) x 0 ≡ 0 → ⊥) ⌝ }
     ensures { λ r. ⌜ Cases r (λ _. Taken (model (now (field .entry))) (length (now (p .entry))) x symbol (now (v .entry)) (now (p .entry)) (now (v .exit)) (now (p .exit))) (λ _. ⊥) ⌝ }
 {

@@ -1,12 +1,13 @@
 // The key equation by values: polynomials q and e with q = t·e at every readable place outside the first choice, where t is
 // the error there over the product of the choice.
 ghost use mathlib.Core.Path.{_≡_};
+ghost use mathlib.Core.Bool.{cond};
 ghost use Prim.Native.Nat.{_<_, _≤_};
 ghost use lib.ListN.{length};
 ghost use Rattle.std.specs.Results.{Cases};
 ghost use Rattle.field_laws.specs.Fields.{size as size-of};
-ghost use Rattle.reed_solomon_laws.proofs.Arrays.{Eliminated};
-ghost use Rattle.reed_solomon.specs.Passes.{Over, Pairs, Advanced};
+ghost use Rattle.reed_solomon_laws.proofs.Arrays.{Eliminated, Located};
+ghost use Rattle.reed_solomon.specs.Passes.{Over, Pairs, Advanced, Readings, Lengths, Skips, Rightful};
 use crate::elements::add;
 use crate::elements::invert;
 use crate::elements::multiply;
@@ -77,4 +78,105 @@ fn advance<F: Field>(
     }
     eliminate(field, x, (gap1, gap0), q1, e1, q0, e0)?;
     Ok(false)
+}
+
+/// Solves the key equation over the readable places outside the choice that p vanishes at. Answers whether the first of the two pairs
+/// has the smaller bound.
+fn solve<F: Field>(
+    field: &F,
+    word: &[u8],
+    marks: &[u8],
+    g: &[u8],
+    p: &[u8],
+    q0: &mut [u8],
+    e0: &mut [u8],
+    q1: &mut [u8],
+    e1: &mut [u8],
+) -> Result<bool, Fault>
+    requires { ⌜ sound (now field) ⌝ ∗ ⌜ Readings (model (now field)) (now word) (now marks) (now g) (now p) ⌝ ∗ ⌜ Lengths (length (now word)) (now q0) (now e0) (now q1) (now e1) ⌝ }
+    ensures { λ r. ⌜ Cases r (λ first. Located (model (now (field .entry))) (length (now (word .entry))) (now (word .entry)) (now (marks .entry)) (now (g .entry)) (now (p .entry)) (cond first (now (e0 .exit)) (now (e1 .exit)))) (λ _. ⊥) ⌝ }
+{
+    q0.fill(1);
+    e0.fill(0);
+    q1.fill(0);
+    e1.fill(1);
+    let mut b0 = 1;
+    let mut b1 = 0;
+    for (x, y) in word.iter().enumerate() {
+        if marks[x] == 0 && p[x] != 0 {
+            let t = quotient(field, *y, g[x], p[x])?;
+            if advance(field, x, t, (b0, b1), q0, e0, q1, e1)? {
+                b0 += 1;
+            } else {
+                b1 += 1;
+            }
+        }
+    }
+    Ok(b0 <= b1)
+}
+
+/// Marks the blank places and those where e vanishes.
+fn mark_roots(marks: &[u8], e: &[u8], skip: &mut [u8])
+    requires { ⌜ length (now e) ≡ length (now marks) ⌝ ∗ ⌜ length (now skip) ≡ length (now marks) ⌝ }
+    ensures { λ _. ⌜ Skips (length (now (marks .entry))) (now (marks .entry)) (now (e .entry)) (now (skip .exit)) ⌝ }
+{
+    for (x, mark) in marks.iter().enumerate() {
+        skip[x] = if *mark == 0 && e[x] != 0 { 0 } else { 1 };
+    }
+}
+
+/// Marks in `skip` each place but the readable ones that a solution of the key equation shows to be right. The other arrays are
+/// room to work in.
+fn locate_in<F: Field>(
+    field: &F,
+    word: &[u8],
+    marks: &[u8],
+    g: &[u8],
+    p: &[u8],
+    q0: &mut [u8],
+    e0: &mut [u8],
+    q1: &mut [u8],
+    e1: &mut [u8],
+    skip: &mut [u8],
+) -> Result<(), Fault>
+    requires { ⌜ sound (now field) ⌝ ∗ ⌜ Readings (model (now field)) (now word) (now marks) (now g) (now p) ⌝ ∗ ⌜ Lengths (length (now word)) (now q0) (now e0) (now q1) (now e1) ⌝ ∗ ⌜ length (now skip) ≡ length (now word) ⌝ }
+    ensures { λ r. ⌜ Cases r (λ _. Rightful (model (now (field .entry))) (now (word .entry)) (now (marks .entry)) (now (g .entry)) (now (p .entry)) (now (skip .exit))) (λ _. ⊥) ⌝ }
+{
+    if solve(field, word, marks, g, p, q0, e0, q1, e1)? {
+        mark_roots(marks, e0, skip);
+        return Ok(());
+    }
+    mark_roots(marks, e1, skip);
+    Ok(())
+}
+
+/// Marks in `skip` each place but the readable ones that a solution of the key equation shows to be right.
+pub(crate) fn locate<F: Field>(
+    field: &F,
+    word: &[u8],
+    marks: &[u8],
+    g: &[u8],
+    p: &[u8],
+    skip: &mut [u8],
+) -> Result<(), Fault>
+    requires { ⌜ sound (now field) ⌝ ∗ ⌜ Readings (model (now field)) (now word) (now marks) (now g) (now p) ⌝ ∗ ⌜ length (now skip) ≡ length (now word) ⌝ ∗ ⌜ length (now word) ≤ 256 ⌝ }
+    ensures { λ r. ⌜ Cases r (λ _. Rightful (model (now (field .entry))) (now (word .entry)) (now (marks .entry)) (now (g .entry)) (now (p .entry)) (now (skip .exit))) (λ _. ⊥) ⌝ }
+{
+    let n = word.len();
+    let mut q0 = [0; 256];
+    let mut e0 = [0; 256];
+    let mut q1 = [0; 256];
+    let mut e1 = [0; 256];
+    locate_in(
+        field,
+        word,
+        marks,
+        g,
+        p,
+        &mut q0[0..n],
+        &mut e0[0..n],
+        &mut q1[0..n],
+        &mut e1[0..n],
+        skip,
+    )
 }

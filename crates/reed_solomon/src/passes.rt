@@ -24,7 +24,13 @@ pub(crate) fn add_multiple<F: Field>(field: &F, c: u8, p: &[u8], v: &mut [u8]) -
 }
 
 /// a·v + b·p
-pub(crate) fn combine<F: Field>(field: &F, a: u8, v: &mut [u8], b: u8, p: &[u8]) -> Result<(), Fault>
+pub(crate) fn combine<F: Field>(
+    field: &F,
+    a: u8,
+    v: &mut [u8],
+    b: u8,
+    p: &[u8],
+) -> Result<(), Fault>
     requires { ⌜ sound (now field) ⌝ ∗ ⌜ a < size-of (model (now field)) ⌝ ∗ ⌜ b < size-of (model (now field)) ⌝ ∗ ⌜ Beside (model (now field)) (now p) (now v) ⌝ }
     ensures { λ r. ⌜ Cases r (λ _. Follows (now (v .exit)) (length (now (p .entry))) (combination (model (now (field .entry))) a (now (v .entry)) b (now (p .entry)))) (λ _. ⊥) ⌝ }
 {

@@ -42,7 +42,7 @@ module _ (f : Field-model) (laws : Field-laws f) (n k : ℕ) (kind : In-kind f n
   interpolated-first skip v p taken long symbols none s =
       the-codeword f laws n k kind word v symbols (interpolated-codeword skip k v p taken long s (s .taken-is ∙ enough))
       (λ j l. let ln : j < n = omega (arith, kind .2) in
-          same-number f laws (getD v j 0) (getD word j 0) (s .v-below j ln) (all-getD (λ x. x < size f) word j 0 (omega (arith, symbols .0)) (symbols .1)) (s .newton laws .takes j ln (l, all-early j l)))
+      same-number f laws (getD v j 0) (getD word j 0) (s .v-below j ln) (all-getD (λ x. x < size f) word j 0 (omega (arith, symbols .0)) (symbols .1)) (s .newton laws .takes j ln (l, all-early j l)))
     where
       all-readable : (j : ℕ) → j ≤ k → count (readable skip) j ≡ j
       all-readable j l = count-all (readable skip) j (λ i m. eq-eqb (getD skip i 0) 0 (none i (omega arith)))
