@@ -1,3 +1,4 @@
 pub mod Making
 pub mod Finding
 pub mod Passes
+pub mod Examples

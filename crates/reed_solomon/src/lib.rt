@@ -6,3 +6,4 @@ mod interpolation;
 mod key_equation;
 mod passes;
 mod search;
+pub mod worked;
