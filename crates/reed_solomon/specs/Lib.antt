@@ -1,0 +1,4 @@
+pub mod Making
+pub mod Finding
+pub mod Passes
+pub mod Examples

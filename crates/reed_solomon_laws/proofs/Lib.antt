@@ -1,0 +1,11 @@
+pub mod Rewriting
+pub mod Nearest
+pub mod Keying
+pub mod Arrays
+pub mod State
+pub mod Laws
+pub mod Codewords
+pub mod Counts
+pub mod Complete
+pub mod Steps
+pub mod Numbers

@@ -1,0 +1,2 @@
+pub mod KeyEquation
+pub mod Words
