@@ -5,15 +5,15 @@ use Rattle.words.proofs.Rises.{raised, checked_ok, checked_err}
 use Rattle.words.proofs.Scans.{first_more, first_found, first_none}
 use Rattle.words.proofs.buffer.check_contents.Goals as goal
 
-pub returns-in-err-check-values : goal.returns-in-err-check-values
-returns-in-err-check-values c =
-    let due = checked_err _ c.in-err-check-values.ensures in
-    raised _ c.from-residual.ensures.1
+pub returns-in_err-check_values : goal.returns-in_err-check_values
+returns-in_err-check_values c =
+    let due = checked_err _ c.in_err-check_values.ensures in
+    raised _ c.from_residual.ensures.1
     ∙ ap checked (sym (first_found _ _ _ _ _ c.loop-buffer-test.true _ due) ∙ c.loop-buffer.invariant)
 
 pub loop-buffer-preserved : goal.loop-buffer-preserved
 loop-buffer-preserved c =
-    let none = checked_ok _ c.in-ok-check-values.ensures in
+    let none = checked_ok _ c.in_ok-check_values.ensures in
     sym (first_more _ _ _ _ _ c.loop-buffer-test.true none) ∙ c.loop-buffer.invariant
 
 pub returns : goal.returns

@@ -1,5 +1,5 @@
 use Rattle.std.proofs.Common.{◌≡◌, map, drop}
-use Rattle.words.specs.Buffers.{goal as handed, first_of, too_large}
+use Rattle.words.specs.Buffers.{given as handed, first_of, too_large}
 use Rattle.words.proofs.buffer.check_contents.Given as goal
 
 -- the buffers that are left have the refusal of all

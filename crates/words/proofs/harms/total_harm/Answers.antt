@@ -15,7 +15,7 @@ loop-i-preserved c =
     let hc : i < length codeword = omega arith in
     let step = harm_more word marks codeword i hw hm hc in
     let most = harm_at_most (get_or word i 0) (get_or marks i 0) (get_or codeword i 0) in
-    (omega (arith, c.harm-at-total.ensures, most), omega (arith, c.harm-at-total.ensures, step))
+    (omega (arith, c.harm_at-total.ensures, most), omega (arith, c.harm_at-total.ensures, step))
 
 pub returns : goal.returns
 returns c =
