@@ -10,7 +10,7 @@ use words::fault::Fault;
 /// Checks a chain. Of one that passes, two rows that agree before a stage are told apart by every reading, so an
 /// estimate is the only one, and no distance passes the number of cells.
 pub fn check_chain<H: Chain>(chain: &H) -> Result<(), Fault>
-    ensures { MatchResult result (λ _. Derived (model chain.now)) (λ f. (sound chain.now → ⊥) × (f ≡ outside)) }
+    ensures { MatchResult result (λ _. Derived (H.model chain.now)) (λ f. (H.sound chain.now → ⊥) × (f ≡ outside)) }
 {
     chain.check()
 }
@@ -23,8 +23,8 @@ pub fn only_estimate<H: Chain>(
     cells: &[u8],
     marks: &[u8],
 ) -> Result<Option<Estimate>, Fault>
-    ensures estimated { Estimated (sound chain.now) (model chain.now) stage labels.now cells.now marks.now result }
-    ensures determined { sound chain.now → Determined (model chain.now) stage labels.now cells.now marks.now result }
+    ensures estimated { Estimated (H.sound chain.now) (H.model chain.now) stage labels.now cells.now marks.now result }
+    ensures determined { H.sound chain.now → Determined (H.model chain.now) stage labels.now cells.now marks.now result }
 {
     chain.estimate(stage, labels, cells, marks)
 }

@@ -62,10 +62,10 @@ pub trait Code {
 
 /// Corrects a word of any code. A word has at most one codeword that is near enough, so the answer is the only one.
 pub fn correct_word<C: Code>(code: &C, word: &mut [u8], marks: &[u8]) -> Result<usize, Fault>
-    ensures sound { sound code.now → Corrected (model code.now) word.old marks.now word.new result }
-    ensures unsound { (sound code.now → ⊥) → (is_err result ≡ true) × (word.new ≡ word.old) }
-    ensures refused { (sound code.now → ⊥) → Refused (refuses code.now) result }
-    ensures only { sound code.now → OnlyOneNear (model code.now) word.old marks.now }
+    ensures sound { C.sound code.now → Corrected (C.model code.now) word.old marks.now word.new result }
+    ensures unsound { (C.sound code.now → ⊥) → (is_err result ≡ true) × (word.new ≡ word.old) }
+    ensures refused { (C.sound code.now → ⊥) → Refused (C.refuses code.now) result }
+    ensures only { C.sound code.now → OnlyOneNear (C.model code.now) word.old marks.now }
 {
     code.correct(word, marks)
 }

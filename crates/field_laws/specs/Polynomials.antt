@@ -1,6 +1,6 @@
 -- The polynomial field of each width: the bits of a number are coefficients, and products are reduced by a fixed polynomial.
 -- Assumes nothing.
-use Rattle.std.specs.Prelude.{ℕ, zero, suc, ◌-◌, ◌*◌, ◌/◌, ◌%◌, ◌^◌, Bool, cond, List, [], ◌∷◌, Some, None, Option, bit-xor, nat_eq, slice_index}
+use Rattle.std.specs.Prelude.{ℕ, zero, suc, ◌-◌, ◌*◌, ◌/◌, ◌%◌, ◌^◌, Bool, cond, List, [], ◌∷◌, Some, None, Option, bit_xor, nat_eq, slice_index}
 use Rattle.field_laws.specs.Fields.{FieldModel}
 
 -- the polynomials that the fields of width 1 to 8 reduce by
@@ -16,12 +16,12 @@ gate b a = (b % 2) * a
 
 -- a polynomial times X, less the modulus where it has grown to the degree m
 unfoldable pub double : ℕ → ℕ → ℕ
-double m a = bit-xor (2 * a) (gate (2 * a / 2 ^ m) (modulus m))
+double m a = bit_xor (2 * a) (gate (2 * a / 2 ^ m) (modulus m))
 
 -- a times the n lowest coefficients of b: b's lowest one times a, plus X times what the others give
 unfoldable pub times : ℕ → ℕ → ℕ → ℕ → ℕ
 times m zero a b = 0
-times m (suc n) a b = bit-xor (gate b a) (double m (times m n a (b / 2)))
+times m (suc n) a b = bit_xor (gate b a) (double m (times m n a (b / 2)))
 
 -- the number below n that passes the test, if there is one
 unfoldable pub seek : (ℕ → Bool) → ℕ → Option ℕ
@@ -31,7 +31,7 @@ seek p (suc n) = cond (p n) (Some n) (seek p n)
 abbrev pub polynomial : ℕ → FieldModel
 polynomial m = record {
   width = m;
-  sum = bitXor;
+  sum = bit_xor;
   product = times m m;
   reciprocal = λ a. seek (λ b. nat_eq (times m m a b) 1) (2 ^ m);
 }

@@ -18,7 +18,7 @@ pub(crate) struct Parts {
 
 /// The width of the field below; 13 if it is above 4.
 pub(crate) fn narrow<F: Field>(field: &F) -> Result<u8, Fault>
-    ensures { Narrow (sound field.now) (model field.now) result }
+    ensures { Narrow (F.sound field.now) (F.model field.now) result }
 {
     let width = field.width();
     if width > 4 {
@@ -70,7 +70,7 @@ pub(crate) fn join(width: u8, low: u8, high: u8) -> Result<u8, Fault>
 
 /// e·e + e
 pub(crate) fn trace<F: Field>(field: &F, e: u8) -> Result<u8, Fault>
-    ensures { Trace (sound field.now) (model field.now) e result }
+    ensures { Trace (F.sound field.now) (F.model field.now) e result }
 {
     let square = field.product(e, e)?;
     field.sum(square, e)
@@ -78,9 +78,9 @@ pub(crate) fn trace<F: Field>(field: &F, e: u8) -> Result<u8, Fault>
 
 /// Ok if no element e has e·e + e = c; else 13.
 pub(crate) fn no_root<F: Field>(field: &F, size: u8, c: u8) -> Result<(), Fault>
-    requires sound { sound field.now }
-    requires size_value { size ≡ type_size (model field.now) }
-    ensures { Checks (Rootless (model field.now) c) result }
+    requires sound { F.sound field.now }
+    requires size_value { size ≡ type_size (F.model field.now) }
+    ensures { Checks (Rootless (F.model field.now) c) result }
 {
     for e in 0..size {
         if trace(field, e)? == c {
@@ -92,7 +92,7 @@ pub(crate) fn no_root<F: Field>(field: &F, size: u8, c: u8) -> Result<(), Fault>
 
 /// a·u + b·v
 pub(crate) fn two_products<F: Field>(field: &F, a: u8, u: u8, b: u8, v: u8) -> Result<u8, Fault>
-    ensures { TwoProducts (sound field.now) (model field.now) a u b v result }
+    ensures { TwoProducts (F.sound field.now) (F.model field.now) a u b v result }
 {
     let au = field.product(a, u)?;
     let bv = field.product(b, v)?;
@@ -101,7 +101,7 @@ pub(crate) fn two_products<F: Field>(field: &F, a: u8, u: u8, b: u8, v: u8) -> R
 
 /// a·(a + b) + c·b·b, for a + b·y.
 pub(crate) fn norm<F: Field>(field: &F, c: u8, x: Parts) -> Result<u8, Fault>
-    ensures { Norm (sound field.now) (model field.now) c x.low x.high result }
+    ensures { Norm (F.sound field.now) (F.model field.now) c x.low x.high result }
 {
     let sum = field.sum(x.low, x.high)?;
     let square = field.product(x.high, x.high)?;
@@ -110,7 +110,7 @@ pub(crate) fn norm<F: Field>(field: &F, c: u8, x: Parts) -> Result<u8, Fault>
 
 /// The parts of the product of `x` and `y`.
 pub(crate) fn product_parts<F: Field>(field: &F, c: u8, x: Parts, y: Parts) -> Result<Parts, Fault>
-    ensures { ProductParts (sound field.now) (model field.now) c x.low x.high y.low y.high result }
+    ensures { ProductParts (F.sound field.now) (F.model field.now) c x.low x.high y.low y.high result }
 {
     let squared = field.product(x.high, y.high)?;
     let low = two_products(field, x.low, y.low, c, squared)?;
@@ -121,7 +121,7 @@ pub(crate) fn product_parts<F: Field>(field: &F, c: u8, x: Parts, y: Parts) -> R
 
 /// The parts of i·((a + b) + b·y), for a + b·y.
 pub(crate) fn scaled_parts<F: Field>(field: &F, i: u8, x: Parts) -> Result<Parts, Fault>
-    ensures { ScaledParts (sound field.now) (model field.now) i x.low x.high result }
+    ensures { ScaledParts (F.sound field.now) (F.model field.now) i x.low x.high result }
 {
     let sum = field.sum(x.low, x.high)?;
     let low = field.product(i, sum)?;
@@ -132,7 +132,7 @@ pub(crate) fn scaled_parts<F: Field>(field: &F, i: u8, x: Parts) -> Result<Parts
 /// i·((a + b) + b·y), for a + b·y.
 pub(crate) fn scaled<F: Field>(field: &F, i: u8, width: u8, x: Parts) -> Result<u8, Fault>
     requires { width ≤ 4 }
-    ensures { Scaled (sound field.now) (model field.now) i width x.low x.high result }
+    ensures { Scaled (F.sound field.now) (F.model field.now) i width x.low x.high result }
 {
     let parts = scaled_parts(field, i, x)?;
     join(width, parts.low, parts.high)
@@ -141,7 +141,7 @@ pub(crate) fn scaled<F: Field>(field: &F, i: u8, width: u8, x: Parts) -> Result<
 /// The sum of two elements of the extension.
 pub(crate) fn sum_of<F: Field>(field: &F, width: u8, a: u8, b: u8) -> Result<u8, Fault>
     requires { width ≤ 4 }
-    ensures { SumOf (sound field.now) (model field.now) width a b result }
+    ensures { SumOf (F.sound field.now) (F.model field.now) width a b result }
 {
     let x = split(width, a);
     let y = split(width, b);
@@ -153,7 +153,7 @@ pub(crate) fn sum_of<F: Field>(field: &F, width: u8, a: u8, b: u8) -> Result<u8,
 /// The product of two elements of the extension.
 pub(crate) fn product_of<F: Field>(field: &F, c: u8, width: u8, a: u8, b: u8) -> Result<u8, Fault>
     requires { width ≤ 4 }
-    ensures { ProductOf (sound field.now) (model field.now) c width a b result }
+    ensures { ProductOf (F.sound field.now) (F.model field.now) c width a b result }
 {
     let x = split(width, a);
     let y = split(width, b);
@@ -164,7 +164,7 @@ pub(crate) fn product_of<F: Field>(field: &F, c: u8, width: u8, a: u8, b: u8) ->
 /// The inverse of an element of the extension, absent for zero.
 pub(crate) fn inverse_of<F: Field>(field: &F, c: u8, width: u8, a: u8) -> Result<Option<u8>, Fault>
     requires { width ≤ 4 }
-    ensures { InverseOf (sound field.now) (model field.now) c width a result }
+    ensures { InverseOf (F.sound field.now) (F.model field.now) c width a result }
 {
     let x = split(width, a);
     let n = norm(field, c, x)?;

@@ -6,8 +6,8 @@ use Rattle.chains.specs.Model.{at_stage}
 use Rattle.chains.proofs.Labels.{label_more, label_found, label_none, bound_at}
 use Rattle.chains.proofs.checks.check_labels.Goals as goal
 
-pub overflow-shl-widths : goal.overflow-shl-widths
-overflow-shl-widths c =
+pub overflow_shl-widths : goal.overflow_shl-widths
+overflow_shl-widths c =
     let narrow = All-get_or (λ w. w ≤ 8) c.args.widths.now c.loop-i.i 0 (omega arith) c.requires.0 in
     omega (arith, narrow)
 

@@ -10,18 +10,18 @@ use Rattle.chains.proofs.checks.check_reading.Goals as goal
 three : {a b c x y z : Given} → a ≡ x → b ≡ y → c ≡ z → refusal Chain (a ∷ b ∷ c ∷ []) ≡ refusal Chain (x ∷ y ∷ z ∷ [])
 three p q r = λ i. refusal Chain (p i ∷ q i ∷ r i ∷ [])
 
-pub returns-in-err-check-buffers : goal.returns-in-err-check-buffers
-returns-in-err-check-buffers c =
-    let stage = checked_ok _ c.in-ok-check-stage.ensures in
-    let sizes = checked_err _ c.in-err-check-buffers.ensures in
-    raised _ c.from-residual-in-err-check-buffers.ensures.1
+pub returns-in_err-check_buffers : goal.returns-in_err-check_buffers
+returns-in_err-check_buffers c =
+    let stage = checked_ok _ c.in_ok-check_stage.ensures in
+    let sizes = checked_err _ c.in_err-check_buffers.ensures in
+    raised _ c.from_residual-in_err-check_buffers.ensures.1
     ∙ ap checked (sym (passed _ stage ∙ stopped _ (sym (three c.sized.ensures c.sized-2.ensures c.sized-3.ensures) ∙ sizes)))
 
 pub returns : goal.returns
 returns c =
-    let stage = checked_ok _ c.in-ok-check-stage.ensures in
-    let sizes = checked_ok _ c.in-ok-check-buffers.ensures in
-    let labels = checked_ok _ c.in-ok-check-labels.ensures in
+    let stage = checked_ok _ c.in_ok-check_stage.ensures in
+    let sizes = checked_ok _ c.in_ok-check_buffers.ensures in
+    let labels = checked_ok _ c.in_ok-check_labels.ensures in
     let reading = ap₂ (λ x y. refusal Chain (x ∷ y ∷ [])) c.binary.ensures c.binary-2.ensures in
-    c.check-buffers-2.ensures
+    c.check_buffers-2.ensures
     ∙ ap checked (reading ∙ sym (fourth _ stage (sym (three c.sized.ensures c.sized-2.ensures c.sized-3.ensures) ∙ sizes) labels))

@@ -4,16 +4,16 @@ use lib.Count.{ones, ones-le}
 use Rattle.chains.proofs.Masks.{harm_ones}
 use Rattle.chains.proofs.reed_muller.harm_left.Goals as goal
 
-pub overflow-mul-result : goal.overflow-mul-result
-overflow-mul-result c =
+pub overflow_mul-result : goal.overflow_mul-result
+overflow_mul-result c =
     let few = ones-le 16 (bit_or c.args.rest c.args.blank) (or_lt 16 c.args.rest c.args.blank c.ranges.rest.fits c.ranges.blank.fits) in
     record { fits = omega (arith, few) }
 
-pub overflow-sub-result : goal.overflow-sub-result
-overflow-sub-result c = omega (arith, harm_ones 16 c.args.rest c.args.blank c.ranges.rest.fits c.ranges.blank.fits)
+pub overflow_sub-result : goal.overflow_sub-result
+overflow_sub-result c = omega (arith, harm_ones 16 c.args.rest c.args.blank c.ranges.rest.fits c.ranges.blank.fits)
 
-pub overflow-cast-result : goal.overflow-cast-result
-overflow-cast-result c =
+pub overflow_cast-result : goal.overflow_cast-result
+overflow_cast-result c =
     let few = ones-le 16 (bit_or c.args.rest c.args.blank) (or_lt 16 c.args.rest c.args.blank c.ranges.rest.fits c.ranges.blank.fits) in
     record { fits = omega (arith, few) }
 

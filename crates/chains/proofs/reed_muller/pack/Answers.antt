@@ -4,13 +4,13 @@ use Rattle.chains.specs.Bits.{bits_of, spelled}
 use Rattle.chains.specs.Spelling.{spelled_small, spelled_front, spelled_more, bits_spelled}
 use Rattle.chains.proofs.reed_muller.pack.Goals as goal
 
-pub overflow-mul-word : goal.overflow-mul-word
-overflow-mul-word c =
+pub overflow_mul-word : goal.overflow_mul-word
+overflow_mul-word c =
     let front = spelled_front c.args.cells.now c.loop-cell.cell-index 15 c.requires.1.1 (omega arith) (omega arith) in
     record { fits = omega (arith, c.loop-cell.invariant, front) }
 
-pub overflow-add-word : goal.overflow-add-word
-overflow-add-word c =
+pub overflow_add-word : goal.overflow_add-word
+overflow_add-word c =
     let more = spelled_more c.args.cells.now c.loop-cell.cell-index c.loop-cell-test.true in
     let front = spelled_front c.args.cells.now (c.loop-cell.cell-index + 1) 16 c.requires.1.1 (omega arith) (omega arith) in
     record { fits = omega (arith, c.loop-cell.invariant, more, front, c.from.ensures) }

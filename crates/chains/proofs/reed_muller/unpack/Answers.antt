@@ -12,7 +12,7 @@ loop-p-preserved c =
     let within : p < length c.loop-p.cells = omega arith in
     let inside : p < length bits = omega (arith, length_bits n c.args.word) in
     take_more_set c.loop-p.cells p _ within
-    ∙ ap₂ (λ xs x. xs ++ (x ∷ [])) c.loop-p.invariant (c.bit-at.ensures.is ∙ sym (get_d_bits n c.args.word p c.loop-p-test.true))
+    ∙ ap₂ (λ xs x. xs ++ (x ∷ [])) c.loop-p.invariant (c.bit_at.ensures.is ∙ sym (get_d_bits n c.args.word p c.loop-p-test.true))
     ∙ sym (take_more bits p 0 inside)
 
 pub returns : goal.returns

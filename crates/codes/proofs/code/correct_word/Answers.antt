@@ -7,5 +7,6 @@ returns g c =
     record {
       sound = c.correct.ensures.sound;
       unsound = c.correct.ensures.unsound;
+      refused = c.correct.ensures.refused;
       only = λ s. only_one_near (m.model c.args.code.now) (g.met.C.Code.lawful c.args.code.now s) c.args.word.now c.args.marks.now;
     }

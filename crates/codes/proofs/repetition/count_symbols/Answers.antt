@@ -17,7 +17,7 @@ loop-i-preserved c =
     let i = c.loop-i.i in
     let s = get_or word i 0 in
     let lm : i < length marks = omega arith in
-    let small : s < length counts = omega (arith, (c.type-inv.word i).fits) in
+    let small : s < length counts = omega (arith, (c.type_inv.word i).fits) in
     elim c.if-marks-i-eq0.branch [
       | then-marks-i-eq0 w ↦
           let is : c.if-marks-i-eq0.counts ≡ set counts s (get_or counts s 0 + 1) = w.counts-is ∙ ap (λ k. set counts k (get_or counts k 0 + 1)) w.from.ensures in

@@ -10,11 +10,11 @@ most c =
     let narrow : c.args.high ≤ 15 = omega arith in
     mul-le ((1 * 2 ^ c.args.width) % 256) c.args.high 16 15 (omega arith) narrow
 
-pub overflow-mul-result : goal.overflow-mul-result
-overflow-mul-result c = let h = most c in record { fits = omega arith }
+pub overflow_mul-result : goal.overflow_mul-result
+overflow_mul-result c = let h = most c in record { fits = omega arith }
 
-pub overflow-add-result : goal.overflow-add-result
-overflow-add-result c =
+pub overflow_add-result : goal.overflow_add-result
+overflow_add-result c =
     let h = most c in
     let shift = one_shl c.args.width 8 (omega arith) in
     let top : 2 ^ c.args.width ≤ 16 = pow_mono c.requires in

@@ -9,7 +9,7 @@ returns g c = λ s hw hi ha hb.
     let f : FieldModel = g.F.Field.model c.args.field.now in
     let laws : FieldLaws f = g.met.F.Field.lawful c.args.field.now s in
     let wide : 2 ^ c.args.width ≡ size f = ap (λ (n : ℕ). 2 ^ n) hw in
-    let parts_are = same_value c.in-ok-parts.was (c.scaled-parts.ensures s hi ha hb) in
+    let parts_are = same_value c.in_ok-parts.was (c.scaled_parts.ensures s hi ha hb) in
     let low_below = laws.product_below _ _ hi (laws.sum_below _ _ ha hb) in
     let high_below = laws.product_below _ _ hi hb in
     c.join.ensures (subst₂ ◌<◌ (sym (ap (λ (p : Parts). p.low) parts_are)) (sym wide) low_below) (subst₂ ◌<◌ (sym (ap (λ (p : Parts). p.high) parts_are)) (sym wide) high_below)

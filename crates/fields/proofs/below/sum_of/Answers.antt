@@ -11,12 +11,12 @@ returns g c = λ s hw ha hb.
     let y = part_of c.args.width f.width c.args.b c.split-y.result hw hb c.split-y.ensures in
     let q : ℕ = size f in
     let wide : 2 ^ c.args.width ≡ q = ap (λ (n : ℕ). 2 ^ n) hw in
-    let low : ℕ = c.in-ok-low.low in
-    let high : ℕ = c.in-ok-high.high in
+    let low : ℕ = c.in_ok-low.low in
+    let high : ℕ = c.in_ok-high.high in
     let low_is : low ≡ f.sum c.split-x.result.low c.split-y.result.low
-    = same_value c.in-ok-low.was (c.sum.ensures s ∙ ok_two q _ _ _ x.low_below y.low_below) in
+    = same_value c.in_ok-low.was (c.sum.ensures s ∙ ok_two q _ _ _ x.low_below y.low_below) in
     let high_is : high ≡ f.sum c.split-x.result.high c.split-y.result.high
-    = same_value c.in-ok-high.was (c.sum-2.ensures s ∙ ok_two q _ _ _ x.high_below y.high_below) in
+    = same_value c.in_ok-high.was (c.sum-2.ensures s ∙ ok_two q _ _ _ x.high_below y.high_below) in
     let low_below : low < 2 ^ c.args.width
     = subst₂ ◌<◌ (sym low_is) (sym wide) (laws.sum_below _ _ x.low_below y.low_below) in
     let high_below : high < 2 ^ c.args.width

@@ -12,10 +12,10 @@ returns g c = λ s ha hu hb hv.
     let b : ℕ = c.args.b in
     let v : ℕ = c.args.v in
     let q : ℕ = size f in
-    let au : ℕ = c.in-ok-au.au in
-    let bv : ℕ = c.in-ok-bv.bv in
-    let au-is : au ≡ f.product a u = same_value c.in-ok-au.was (c.product.ensures s ∙ ok_two q a u _ ha hu) in
-    let bv-is : bv ≡ f.product b v = same_value c.in-ok-bv.was (c.product-2.ensures s ∙ ok_two q b v _ hb hv) in
+    let au : ℕ = c.in_ok-au.au in
+    let bv : ℕ = c.in_ok-bv.bv in
+    let au-is : au ≡ f.product a u = same_value c.in_ok-au.was (c.product.ensures s ∙ ok_two q a u _ ha hu) in
+    let bv-is : bv ≡ f.product b v = same_value c.in_ok-bv.was (c.product-2.ensures s ∙ ok_two q b v _ hb hv) in
     let au-below = laws.product_below a u ha hu in
     let bv-below = laws.product_below b v hb hv in (
       c.sum.ensures s

@@ -12,8 +12,8 @@ pub returns-then-a-eq0 : goal.returns-then-a-eq0
 returns-then-a-eq0 c =
     sym (ap (polynomial c.args.width).reciprocal c.if-a-eq0.true ∙ zero_none c.args.width c.requires.0.0 c.requires.0.1)
 
-pub overflow-sub-round-2 : goal.overflow-sub-round-2
-overflow-sub-round-2 c = let a = a_below c in let shift = one_shl c.args.width 64 (omega arith) in omega arith
+pub overflow_sub-round-2 : goal.overflow_sub-round-2
+overflow_sub-round-2 c = let a = a_below c in let shift = one_shl c.args.width 64 (omega arith) in omega arith
 
 pub returns : goal.returns
 returns c =

@@ -14,8 +14,8 @@ pub returns-then-a-eq0 : goal.returns-then-a-eq0
 returns-then-a-eq0 c =
     sym (⊎_elim (zero_left c.args.width c.args.a c.args.b) (λ h. zero_right c.args.width c.args.a c.args.b h.1) c.then-a-eq0.either)
 
-pub overflow-add-log : goal.overflow-add-log
-overflow-add-log c = let a = a_below c in let b = b_below c in let top = pow_most c.args.width c.requires.0.1 in record { fits = omega arith }
+pub overflow_add-log : goal.overflow_add-log
+overflow_add-log c = let a = a_below c in let b = b_below c in let top = pow_most c.args.width c.requires.0.1 in record { fits = omega arith }
 
 pub antilog-requires : goal.antilog-requires
 antilog-requires c = let a = a_below c in let b = b_below c in (c.requires.0.1, omega arith)

@@ -5,4 +5,4 @@ use Rattle.fields.proofs.worked.examples.Goals as goal
 
 pub returns : goal.returns
 unfolding times double gate
-returns c = record { stand = examples; values = c.example-products.ensures ∙ refl }
+returns c = record { stand = examples; values = c.example_products.ensures ∙ refl }

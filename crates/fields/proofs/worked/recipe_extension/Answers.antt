@@ -3,5 +3,5 @@ use Rattle.fields.proofs.worked.recipe_extension.Goals as goal
 
 pub returns : goal.returns
 returns c =
-    let constant = c.in-ok-c.ensures in
-    made c.args.width c.in-ok-c.c c.extension-over.result constant.0 constant.1 c.extension-over.ensures
+    let constant = c.in_ok-c.ensures in
+    made c.args.width c.in_ok-c.c c.extension_over.result constant.0 constant.1 c.extension_over.ensures

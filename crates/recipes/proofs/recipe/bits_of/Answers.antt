@@ -2,8 +2,8 @@ use Rattle.std.proofs.Common.{arith, rules}
 use Rattle.recipes.proofs.Bounds.{bits_small}
 use Rattle.recipes.proofs.recipe.bits_of.Goals as goal
 
-pub overflow-mul-result : goal.overflow-mul-result
-overflow-mul-result c = record { fits = omega (arith, bits_small c.args.stage.now c.requires) }
+pub overflow_mul-result : goal.overflow_mul-result
+overflow_mul-result c = record { fits = omega (arith, bits_small c.args.stage.now c.requires) }
 
 pub returns : goal.returns
 returns c = record { value = search rules; bound = bits_small c.args.stage.now c.requires }

@@ -2,5 +2,5 @@ use Rattle.std.proofs.Common.{arith}
 use Rattle.recipes.proofs.Bounds.{reach_small}
 use Rattle.recipes.proofs.recipe.reach_of.Goals as goal
 
-pub overflow-mul-result : goal.overflow-mul-result
-overflow-mul-result c = record { fits = omega (arith, reach_small c.args.stage.now c.requires) }
+pub overflow_mul-result : goal.overflow_mul-result
+overflow_mul-result c = record { fits = omega (arith, reach_small c.args.stage.now c.requires) }

@@ -11,21 +11,21 @@ use Rattle.recipes.proofs.Filling.{Filled, few_stages, few_columns, message_with
 use Rattle.recipes.proofs.Naming.{chain_of_byte, code_of_byte}
 use Rattle.recipes.proofs.recipe.read_table.Goals as goal
 
-pub returns-in-err-fields : goal.returns-in-err-fields
-returns-in-err-fields c =
+pub returns-in_err-fields : goal.returns-in_err-fields
+returns-in_err-fields c =
     let b = c.args.bytes.now in
     let chain = c.args.chain in
-    let step = rules_more b chain c.stages-stages.result c.loop-i.i _ c.loop-i-test.true c.in-err-fields.ensures in
-    rw (raised _ c.from-residual.ensures.1)
+    let step = rules_more b chain c.stages-stages.result c.loop-i.i _ c.loop-i-test.true c.in_err-fields.ensures in
+    rw (raised _ c.from_residual.ensures.1)
     (ap (λ s. first_broken (rules_from b chain s 0)) (sym c.stages-stages.ensures) ∙ sym c.loop-i.invariant.2 ∙ step)
 
 pub fill-requires : goal.fill-requires
 fill-requires c =
     let filled = c.loop-i.invariant.0 in
-    let fields = c.in-ok-fields.ensures in
+    let fields = c.in_ok-fields.ensures in
     let known = (chain_of_byte (get_or c.args.bytes.now 0 0) c.args.chain c.requires.named).0 in
     let few = few_columns c.args.chain c.args.columns known c.requires.cells_fit in
-    let within = message_within c.in-ok-fields.fields.kind (width_at c.args.chain c.loop-i.i) c.args.columns c.in-ok-fields.fields.message_len c.requires.some_columns fields.3 in (
+    let within = message_within c.in_ok-fields.fields.kind (width_at c.args.chain c.loop-i.i) c.args.columns c.in_ok-fields.fields.message_len c.requires.some_columns fields.3 in (
       subst Known (sym filled.chain_is) known,
       (
         subst (λ (h : ChainKind). c.loop-i.i < stages_of h) (sym filled.chain_is) (omega (arith, c.stages-stages.ensures)),
@@ -41,9 +41,9 @@ loop-i-preserved c =
     let columns = c.args.columns in
     let i = c.loop-i.i in
     let filled = c.loop-i.invariant.0 in
-    let fields = c.in-ok-fields.ensures in
-    let kind = c.in-ok-fields.fields.kind in
-    let k = c.in-ok-fields.fields.message_len in
+    let fields = c.in_ok-fields.ensures in
+    let kind = c.in_ok-fields.fields.kind in
+    let k = c.in_ok-fields.fields.message_len in
     let code = code_of_byte (get_or b (3 + 3 * i) 0) (width_at chain i) kind fields.1 in
     let known = (chain_of_byte (get_or c.args.bytes.now 0 0) c.args.chain c.requires.named).0 in
     let fits : fits_kind kind (width_at chain i) (two_bytes b 1) (two_bytes b (4 + 3 * i)) ≡ true = subst₂ (λ (n m : ℕ). fits_kind kind (width_at chain i) n m ≡ true) c.requires.spelled fields.2 fields.3 in
@@ -54,13 +54,13 @@ loop-i-preserved c =
       sym step ∙ c.loop-i.invariant.2,
     )
 
-pub returns-in-err-check-end : goal.returns-in-err-check-end
-returns-in-err-check-end c =
+pub returns-in_err-check_end : goal.returns-in_err-check_end
+returns-in_err-check_end c =
     let b = c.args.bytes.now in
     let chain = c.args.chain in
     let s = c.stages-stages.result in
-    let over = c.in-err-check-end.ensures in
-    rw (raised _ c.from-residual-in-err-check-end.ensures.1)
+    let over = c.in_err-check_end.ensures in
+    rw (raised _ c.from_residual-in_err-check_end.ensures.1)
     (ap (λ n. first_broken (rules_from b chain n 0)) (sym c.stages-stages.ensures) ∙ sym c.loop-i.invariant.2
     ∙ end_broken b chain s c.loop-i.i (omega arith) over.0 ∙ ap Some (sym over.1))
 
@@ -68,5 +68,5 @@ pub returns : goal.returns
 returns c =
     let b = c.args.bytes.now in
     let all : c.loop-i.i ≡ stages_of c.args.chain = omega (arith, c.stages-stages.ensures) in
-    let whole : length b ≡ 3 + 3 * stages_of c.args.chain = omega (arith, c.in-ok-check-end.ensures, c.stages-stages.ensures) in
+    let whole : length b ≡ 3 + 3 * stages_of c.args.chain = omega (arith, c.in_ok-check_end.ensures, c.stages-stages.ensures) in
     described b c.args.chain c.args.columns c.loop-i.table c.requires (subst (λ (n : ℕ). Filled b c.args.chain c.args.columns n c.loop-i.table) all c.loop-i.invariant.0) whole

@@ -5,8 +5,8 @@ use Rattle.recipes.specs.Stages.{blank}
 use Rattle.recipes.specs.Totals.{Bounded, stage_bits}
 use Rattle.recipes.proofs.recipe.sum_bits.Goals as goal
 
-pub bits-of-bits-requires : goal.bits-of-bits-requires
-bits-of-bits-requires c = All-get_or Bounded c.args.stages.now c.loop-stage.stage-index blank c.loop-stage-test.true c.requires.0
+pub bits_of-bits-requires : goal.bits_of-bits-requires
+bits_of-bits-requires c = All-get_or Bounded c.args.stages.now c.loop-stage.stage-index blank c.loop-stage-test.true c.requires.0
 
 pub loop-stage-preserved : goal.loop-stage-preserved
 loop-stage-preserved c =

@@ -4,14 +4,14 @@ use Rattle.chains.specs.Promises.{Estimates}
 use Rattle.chains.proofs.EvenEstimates.{first_some, first_none}
 use Rattle.chains.proofs.even.Even.estimate_first.Goals as goal
 
-pub returns-then-ones-of-eq0 : goal.returns-then-ones-of-eq0
-returns-then-ones-of-eq0 c =
+pub returns-then-ones_of-eq0 : goal.returns-then-ones_of-eq0
+returns-then-ones_of-eq0 c =
     let n = c.args.self.now.n in
     let cells = c.args.cells.now in
     let marks = c.args.marks.now in
-    subst (λ (x : ℕ). Estimates (even_chain n) 1 [] cells marks (Some (record { label = x; harm = 0 }))) (sym c.parity-of-label.ensures)
+    subst (λ (x : ℕ). Estimates (even_chain n) 1 [] cells marks (Some (record { label = x; harm = 0 }))) (sym c.parity_of-label.ensures)
     (first_some n c.args.self.now.range cells marks c.requires.0 c.requires.1 (omega arith))
 
-pub returns-else-ones-of-eq0 : goal.returns-else-ones-of-eq0
-returns-else-ones-of-eq0 c =
+pub returns-else-ones_of-eq0 : goal.returns-else-ones_of-eq0
+returns-else-ones_of-eq0 c =
     first_none c.args.self.now.n c.args.self.now.range c.args.cells.now c.args.marks.now c.requires.0 c.requires.1 (omega arith)

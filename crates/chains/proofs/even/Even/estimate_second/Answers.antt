@@ -13,9 +13,9 @@ turn odd even small is = ap (bit_xor odd) is ∙ xor_bit odd (even % 2) small (o
 pub returns-then-blanks-from : goal.returns-then-blanks-from
 returns-then-blanks-from c =
     let cells = c.args.cells.now in
-    let flip = turn c.args.odd (total cells) c.requires.1.1 c.parity-of.ensures in
+    let flip = turn c.args.odd (total cells) c.requires.1.1 c.parity_of.ensures in
     second_none c.args.self.now.n c.args.self.now.range cells c.args.marks.now c.requires.0 c.requires.1.0 c.args.odd _ c.requires.1.1 flip
-    (⊎_elim (λ few. inl (omega (arith, few, c.from.ensures, c.ones-of-blanks.ensures))) (λ many. inr (omega (arith, many, c.ones-of-blanks.ensures))) c.then-blanks-from.either)
+    (⊎_elim (λ few. inl (omega (arith, few, c.from.ensures, c.ones_of-blanks.ensures))) (λ many. inr (omega (arith, many, c.ones_of-blanks.ensures))) c.then-blanks-from.either)
 
 pub returns : goal.returns
 returns c =
@@ -23,6 +23,6 @@ returns c =
     let cells = c.args.cells.now in
     let marks = c.args.marks.now in
     let odd = c.args.odd in
-    let flip = turn odd (total cells) c.requires.1.1 c.parity-of.ensures in
-    subst₂ (λ (x y : ℕ). Estimates (even_chain n) 2 (odd ∷ []) cells marks (Some (record { label = x; harm = y }))) (sym c.spell-label.ensures) (sym c.ones-of-blanks.ensures)
-    (second_some n c.args.self.now.range cells marks c.requires.0 c.requires.1.0 odd _ c.requires.1.1 flip (omega (arith, c.from.ensures, c.ones-of-blanks.ensures)) (omega (arith, c.ones-of-blanks.ensures)))
+    let flip = turn odd (total cells) c.requires.1.1 c.parity_of.ensures in
+    subst₂ (λ (x y : ℕ). Estimates (even_chain n) 2 (odd ∷ []) cells marks (Some (record { label = x; harm = y }))) (sym c.spell-label.ensures) (sym c.ones_of-blanks.ensures)
+    (second_some n c.args.self.now.range cells marks c.requires.0 c.requires.1.0 odd _ c.requires.1.1 flip (omega (arith, c.from.ensures, c.ones_of-blanks.ensures)) (omega (arith, c.ones_of-blanks.ensures)))

@@ -21,14 +21,14 @@ step c =
     let more = spelled_more (filled flip cells marks) p (omega (arith, c.from-p-end.ensures, fw.0)) in
     omega (arith, more, here, c.turned.ensures, c.loop-p.invariant)
 
-pub overflow-mul-number : goal.overflow-mul-number
-overflow-mul-number c =
+pub overflow_mul-number : goal.overflow_mul-number
+overflow_mul-number c =
     let fw = filled_cells c.args.self.now.n c.args.flip c.args.cells.now c.args.marks.now c.requires.0 c.requires.1.0 in
     let front = spelled_front _ c.loop-p.p 7 fw.1 (omega (arith, c.from-p-end.ensures, c.args.self.now.range)) (omega (arith, c.from-p-end.ensures, fw.0)) in
     record { fits = omega (arith, c.loop-p.invariant, front) }
 
-pub overflow-add-number : goal.overflow-add-number
-overflow-add-number c =
+pub overflow_add-number : goal.overflow_add-number
+overflow_add-number c =
     let fw = filled_cells c.args.self.now.n c.args.flip c.args.cells.now c.args.marks.now c.requires.0 c.requires.1.0 in
     let p = c.loop-p.p in
     let step = step c in

@@ -19,22 +19,22 @@ one_label n (x ∷ y ∷ labels) l a = absurd (omega arith)
 reading : (n i : ℕ) (labels cells marks : List ℕ) {m : ℕ} {ws : List ℕ} {u : Unit {0}} → m ≡ n → ws ≡ even_widths n → Ok u ≡ checked (estimate_refusal m (length ws) (at_stage ws) i labels cells marks) → ReadingFits n 2 (at_stage (even_widths n)) i labels cells marks
 reading n i labels cells marks em ew e = reading_fits n 2 (at_stage (even_widths n)) i labels cells marks (reading_passed i labels cells marks em ew refl e)
 
-pub returns-in-err-check-reading : goal.returns-in-err-check-reading
-returns-in-err-check-reading c =
+pub returns-in_err-check_reading : goal.returns-in_err-check_reading
+returns-in_err-check_reading c =
     let labels = c.args.labels.now in
     let cells = c.args.cells.now in
     let marks = c.args.marks.now in
-    let due = sym (same_reading c.args.stage labels cells marks c.from.ensures c.widths.ensures refl) ∙ checked_err _ c.in-err-check-reading.ensures in
-    (λ _. refuses _ (Estimates (even_chain c.args.self.now.n) c.args.stage labels cells marks) c.from-residual.result due (raised _ c.from-residual.ensures.1), λ no. absurd (no tt))
+    let due = sym (same_reading c.args.stage labels cells marks c.from.ensures c.widths.ensures refl) ∙ checked_err _ c.in_err-check_reading.ensures in
+    (λ _. refuses _ (Estimates (even_chain c.args.self.now.n) c.args.stage labels cells marks) c.from_residual.result due (raised _ c.from_residual.ensures.1), λ no. absurd (no tt))
 
-pub estimate-first-requires : goal.estimate-first-requires
-estimate-first-requires c =
-    let fits = reading c.args.self.now.n c.args.stage c.args.labels.now c.args.cells.now c.args.marks.now c.from.ensures c.widths.ensures c.in-ok-check-reading.ensures in
+pub estimate_first-requires : goal.estimate_first-requires
+estimate_first-requires c =
+    let fits = reading c.args.self.now.n c.args.stage c.args.labels.now c.args.cells.now c.args.marks.now c.from.ensures c.widths.ensures c.in_ok-check_reading.ensures in
     (fits.cells_fit, fits.marks_fit)
 
-pub estimate-second-requires : goal.estimate-second-requires
-estimate-second-requires c =
-    let fits = reading c.args.self.now.n c.args.stage c.args.labels.now c.args.cells.now c.args.marks.now c.from.ensures c.widths.ensures c.in-ok-check-reading.ensures in
+pub estimate_second-requires : goal.estimate_second-requires
+estimate_second-requires c =
+    let fits = reading c.args.self.now.n c.args.stage c.args.labels.now c.args.cells.now c.args.marks.now c.from.ensures c.widths.ensures c.in_ok-check_reading.ensures in
     let one = one_label c.args.self.now.n c.args.labels.now (omega (arith, fits.many, fits.low, fits.high)) fits.each in
     (fits.cells_fit, (fits.marks_fit, one.0))
 
@@ -43,10 +43,10 @@ returns-then-stage-eq1 c =
     let n = c.args.self.now.n in
     let cells = c.args.cells.now in
     let marks = c.args.marks.now in
-    let none = reading_passed c.args.stage c.args.labels.now cells marks c.from.ensures c.widths.ensures refl c.in-ok-check-reading.ensures in
-    let fits = reading n c.args.stage c.args.labels.now cells marks c.from.ensures c.widths.ensures c.in-ok-check-reading.ensures in
+    let none = reading_passed c.args.stage c.args.labels.now cells marks c.from.ensures c.widths.ensures refl c.in_ok-check_reading.ensures in
+    let fits = reading n c.args.stage c.args.labels.now cells marks c.from.ensures c.widths.ensures c.in_ok-check_reading.ensures in
     let empty = nil_from_length c.args.labels.now (omega (arith, fits.many)) in
-    let near = subst₂ (λ (i : ℕ) (labels : List ℕ). Estimates (even_chain n) i labels cells marks c.estimate-first.result) (sym c.if-stage-eq1.true) (sym empty) c.estimate-first.ensures in
+    let near = subst₂ (λ (i : ℕ) (labels : List ℕ). Estimates (even_chain n) i labels cells marks c.estimate_first.result) (sym c.if-stage-eq1.true) (sym empty) c.estimate_first.ensures in
     (λ _. answers _ (Estimates (even_chain n) c.args.stage c.args.labels.now cells marks) _ none near, λ no. absurd (no tt))
 
 pub returns-else-stage-eq1 : goal.returns-else-stage-eq1
@@ -54,9 +54,9 @@ returns-else-stage-eq1 c =
     let n = c.args.self.now.n in
     let cells = c.args.cells.now in
     let marks = c.args.marks.now in
-    let none = reading_passed c.args.stage c.args.labels.now cells marks c.from.ensures c.widths.ensures refl c.in-ok-check-reading.ensures in
-    let fits = reading n c.args.stage c.args.labels.now cells marks c.from.ensures c.widths.ensures c.in-ok-check-reading.ensures in
+    let none = reading_passed c.args.stage c.args.labels.now cells marks c.from.ensures c.widths.ensures refl c.in_ok-check_reading.ensures in
+    let fits = reading n c.args.stage c.args.labels.now cells marks c.from.ensures c.widths.ensures c.in_ok-check_reading.ensures in
     let two : 2 ≡ c.args.stage = omega (arith, fits.low, fits.high) in
     let one = one_label n c.args.labels.now (omega (arith, fits.many)) fits.each in
-    let near = subst₂ (λ (i : ℕ) (labels : List ℕ). Estimates (even_chain n) i labels cells marks c.estimate-second.result) two (sym one.1) c.estimate-second.ensures in
+    let near = subst₂ (λ (i : ℕ) (labels : List ℕ). Estimates (even_chain n) i labels cells marks c.estimate_second.result) two (sym one.1) c.estimate_second.ensures in
     (λ _. answers _ (Estimates (even_chain n) c.args.stage c.args.labels.now cells marks) _ none near, λ no. absurd (no tt))

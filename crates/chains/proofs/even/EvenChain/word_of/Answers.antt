@@ -11,12 +11,12 @@ pub lay-requires : goal.lay-requires
 lay-requires c =
     let labels = c.args.labels.now in
     let cells = c.args.cells.now in
-    let due = row_passed labels cells c.from.ensures c.widths.ensures refl c.in-ok-check-row.ensures in
+    let due = row_passed labels cells c.from.ensures c.widths.ensures refl c.in_ok-check_row.ensures in
     row_fits c.args.self.now.n 2 (at_stage (even_widths c.args.self.now.n)) labels cells due
 
 pub returns : goal.returns
 returns c =
     let labels = c.args.labels.now in
     let cells = c.args.cells.now in
-    let due = row_passed labels cells c.from.ensures c.widths.ensures refl c.in-ok-check-row.ensures in
+    let due = row_passed labels cells c.from.ensures c.widths.ensures refl c.in_ok-check_row.ensures in
     (λ _. (ap checked (sym due), c.lay.ensures ∙ ap (λ z. kept_or z cells (even_word c.args.self.now.n labels)) (sym due)), λ no. absurd (no tt))

@@ -19,13 +19,13 @@ bounds r i range low high =
     let there : i - 1 < length (muller_widths r) = omega (arith, sizes.stages) in
     (All-get_or (λ w. 1 ≤ w) (muller_widths r) (i - 1) 0 there sizes.some_width, All-get_or (λ w. w ≤ 8) (muller_widths r) (i - 1) 0 there sizes.few_width)
 
-pub overflow-shr-result : goal.overflow-shr-result
-overflow-shr-result c =
+pub overflow_shr-result : goal.overflow_shr-result
+overflow_shr-result c =
     let wide = bounds c.args.self.now.r c.args.stage c.args.self.now.range c.requires.0 c.requires.1.0 in
     omega (arith, width c, wide.0, c.cells.ensures, (muller_sizes c.args.self.now.r c.args.self.now.range).few_cells)
 
-pub overflow-cast-result-2 : goal.overflow-cast-result-2
-overflow-cast-result-2 c =
+pub overflow_cast-result-2 : goal.overflow_cast-result-2
+overflow_cast-result-2 c =
     let r = c.args.self.now.r in
     let w = at_stage (muller_widths r) c.args.stage in
     let k = c.cells.result - c.args.count - c.from-width.result in

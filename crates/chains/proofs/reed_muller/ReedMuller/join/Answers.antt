@@ -17,17 +17,17 @@ loop-i-init c =
 pub bounds-widths-i : goal.bounds-widths-i
 bounds-widths-i c = stage_there c.args.self.now.r c.args.self.now.range c.args.labels.now c.widths-widths.result.now c.loop-i.i c.widths-widths.ensures c.requires.0 c.requires.1 c.loop-i-test.true
 
-pub overflow-shl-bits : goal.overflow-shl-bits
-overflow-shl-bits c = omega (arith, width_small c.args.self.now.r c.args.self.now.range c.args.labels.now c.widths-widths.result.now c.loop-i.i c.widths-widths.ensures c.requires.0 c.requires.1 c.loop-i-test.true)
+pub overflow_shl-bits : goal.overflow_shl-bits
+overflow_shl-bits c = omega (arith, width_small c.args.self.now.r c.args.self.now.range c.args.labels.now c.widths-widths.result.now c.loop-i.i c.widths-widths.ensures c.requires.0 c.requires.1 c.loop-i-test.true)
 
-pub overflow-add-bits : goal.overflow-add-bits
-overflow-add-bits c = record { fits = (join_bits c.args.self.now.r c.args.self.now.range c.args.labels.now c.widths-widths.result.now c.loop-i.i c.widths-widths.ensures c.requires.0 c.requires.1 c.loop-i-test.true c.loop-i.bits c.from.result c.loop-i.invariant.0 c.from.ensures).1 }
+pub overflow_add-bits : goal.overflow_add-bits
+overflow_add-bits c = record { fits = (join_bits c.args.self.now.r c.args.self.now.range c.args.labels.now c.widths-widths.result.now c.loop-i.i c.widths-widths.ensures c.requires.0 c.requires.1 c.loop-i-test.true c.loop-i.bits c.from.result c.loop-i.invariant.0 c.from.ensures).1 }
 
 pub bounds-widths-i-in-loop-i : goal.bounds-widths-i-in-loop-i
 bounds-widths-i-in-loop-i c = stage_there c.args.self.now.r c.args.self.now.range c.args.labels.now c.widths-widths.result.now c.loop-i.i c.widths-widths.ensures c.requires.0 c.requires.1 c.loop-i-test.true
 
-pub overflow-add-count : goal.overflow-add-count
-overflow-add-count c = record { fits = omega (arith, (join_count c.args.self.now.r c.args.self.now.range c.args.labels.now c.widths-widths.result.now c.loop-i.i c.widths-widths.ensures c.requires.0 c.requires.1 c.loop-i-test.true c.loop-i.count c.loop-i.invariant.1).1, c.from-count.ensures) }
+pub overflow_add-count : goal.overflow_add-count
+overflow_add-count c = record { fits = omega (arith, (join_count c.args.self.now.r c.args.self.now.range c.args.labels.now c.widths-widths.result.now c.loop-i.i c.widths-widths.ensures c.requires.0 c.requires.1 c.loop-i-test.true c.loop-i.count c.loop-i.invariant.1).1, c.from-count.ensures) }
 
 pub loop-i-preserved : goal.loop-i-preserved
 loop-i-preserved c = (

@@ -7,8 +7,8 @@ use Rattle.chains.proofs.reed_muller.ReedMuller.nearest.Goals as goal
 distance : (r i : ℕ) → r ≤ 4 → i ≤ r + 1 → (1 * 2 ^ (i - 1)) % 18446744073709551616 ≡ 2 ^ (i - 1)
 distance r i few high = one_shl (i - 1) 64 (omega arith)
 
-pub first-label-label-requires : goal.first-label-label-requires
-first-label-label-requires c =
+pub first_label-label-requires : goal.first_label-label-requires
+first_label-label-requires c =
     let r = c.args.self.now.r in
     let range = c.args.self.now.range in
     let found = c.find-found.ensures in (
@@ -27,7 +27,7 @@ returns-then-found-stage c =
     let r = c.args.self.now.r in
     let found = c.find-found.ensures in
     let near = subst (λ (d : ℕ). c.find-found.result.harm < d) (distance r c.args.stage c.args.self.now.range.1 c.requires.high) c.if-found-stage.true in
-    nearest_some r c.args.self.now.range c.args.stage c.args.labels.now c.args.cells.now c.args.marks.now c.requires c.find-found.result.count c.find-found.result.bits found.count found.bits c.first-label-label.result c.find-found.result.harm c.first-label-label.ensures found.harm near
+    nearest_some r c.args.self.now.range c.args.stage c.args.labels.now c.args.cells.now c.args.marks.now c.requires c.find-found.result.count c.find-found.result.bits found.count found.bits c.first_label-label.result c.find-found.result.harm c.first_label-label.ensures found.harm near
 
 pub returns-else-found-stage : goal.returns-else-found-stage
 returns-else-found-stage c =

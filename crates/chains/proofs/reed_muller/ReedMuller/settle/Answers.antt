@@ -17,11 +17,11 @@ short c =
     let below = settle_short r c.args.self.now.range c.args.from c.loop-t.t (bits_of n c.args.word) (bits_of n c.args.blank) inv.0 c.loop-t.bits (omega (arith, c.cells-t-end.ensures)) inv.2 in
     omega (arith, below, pow_mono {i = c.loop-t.t} {j = 15} (omega (arith, few, c.cells-t-end.ensures)))
 
-pub overflow-mul-bits : goal.overflow-mul-bits
-overflow-mul-bits c = record { fits = omega (arith, short c) }
+pub overflow_mul-bits : goal.overflow_mul-bits
+overflow_mul-bits c = record { fits = omega (arith, short c) }
 
-pub overflow-add-bits : goal.overflow-add-bits
-overflow-add-bits c =
+pub overflow_add-bits : goal.overflow_add-bits
+overflow_add-bits c =
     let n = 2 ^ c.args.self.now.r in
     let bit = elected_small (column c.args.self.now.r c.number.result).checks (bits_of n c.loop-t.rest) (bits_of n c.args.blank) in
     record { fits = omega (arith, short c, bit, c.vote-bit.ensures) }

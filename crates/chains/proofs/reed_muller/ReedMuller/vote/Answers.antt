@@ -9,8 +9,8 @@ use Rattle.chains.proofs.reed_muller.ReedMuller.vote.Goals.{then-a-s-eq0, else-a
 pub subsets-requires : goal.subsets-requires
 subsets-requires c = omega (arith, c.requires, (muller_sizes c.args.self.now.r c.args.self.now.range).few_cells)
 
-pub overflow-shl-set : goal.overflow-shl-set
-overflow-shl-set c = omega (arith, c.cells-a-end.ensures, (muller_sizes c.args.self.now.r c.args.self.now.range).few_cells)
+pub overflow_shl-set : goal.overflow_shl-set
+overflow_shl-set c = omega (arith, c.cells-a-end.ensures, (muller_sizes c.args.self.now.r c.args.self.now.range).few_cells)
 
 pub loop-a-preserved : goal.loop-a-preserved
 loop-a-preserved c =

@@ -9,25 +9,25 @@ use Rattle.chains.specs.Fits.{reading_fits}
 use Rattle.chains.specs.MullerColumns.{muller_sizes}
 use Rattle.chains.proofs.reed_muller.ReedMullerChain.estimate.Goals as goal
 
-pub check-reading-requires : goal.check-reading-requires
-check-reading-requires c = subst (All (λ w. w ≤ 8)) (sym c.widths.ensures) (muller_sizes c.args.self.now.r c.args.self.now.range).few_width
+pub check_reading-requires : goal.check_reading-requires
+check_reading-requires c = subst (All (λ w. w ≤ 8)) (sym c.widths.ensures) (muller_sizes c.args.self.now.r c.args.self.now.range).few_width
 
-pub returns-in-err-check-reading : goal.returns-in-err-check-reading
-returns-in-err-check-reading c =
+pub returns-in_err-check_reading : goal.returns-in_err-check_reading
+returns-in_err-check_reading c =
     let r = c.args.self.now.r in
     let labels = c.args.labels.now in
     let cells = c.args.cells.now in
     let marks = c.args.marks.now in
     let stages = (muller_sizes r c.args.self.now.range).stages in
-    let due = sym (same_reading c.args.stage labels cells marks c.cells.ensures c.widths.ensures stages) ∙ checked_err _ c.in-err-check-reading.ensures in
-    (λ _. refuses _ (Estimates (muller_chain r) c.args.stage labels cells marks) c.from-residual.result due (raised _ c.from-residual.ensures.1), λ no. absurd (no tt))
+    let due = sym (same_reading c.args.stage labels cells marks c.cells.ensures c.widths.ensures stages) ∙ checked_err _ c.in_err-check_reading.ensures in
+    (λ _. refuses _ (Estimates (muller_chain r) c.args.stage labels cells marks) c.from_residual.result due (raised _ c.from_residual.ensures.1), λ no. absurd (no tt))
 
 pub nearest-requires : goal.nearest-requires
 nearest-requires c =
     let r = c.args.self.now.r in
     let stages = (muller_sizes r c.args.self.now.range).stages in
     reading_fits (2 ^ r) (r + 1) (at_stage (muller_widths r)) c.args.stage c.args.labels.now c.args.cells.now c.args.marks.now
-    (reading_passed c.args.stage c.args.labels.now c.args.cells.now c.args.marks.now c.cells.ensures c.widths.ensures stages c.in-ok-check-reading.ensures)
+    (reading_passed c.args.stage c.args.labels.now c.args.cells.now c.args.marks.now c.cells.ensures c.widths.ensures stages c.in_ok-check_reading.ensures)
 
 pub returns : goal.returns
 returns c =
@@ -36,5 +36,5 @@ returns c =
     let cells = c.args.cells.now in
     let marks = c.args.marks.now in
     let stages = (muller_sizes r c.args.self.now.range).stages in
-    let none = reading_passed c.args.stage labels cells marks c.cells.ensures c.widths.ensures stages c.in-ok-check-reading.ensures in
+    let none = reading_passed c.args.stage labels cells marks c.cells.ensures c.widths.ensures stages c.in_ok-check_reading.ensures in
     (λ _. answers _ (Estimates (muller_chain r) c.args.stage labels cells marks) _ none c.nearest.ensures, λ no. absurd (no tt))

@@ -15,30 +15,30 @@ use Rattle.chains.specs.MullerWords.{word_is}
 use Rattle.chains.specs.Spelling.{bits_none}
 use Rattle.chains.proofs.reed_muller.ReedMullerChain.word_of.Goals as goal
 
-pub check-row-requires : goal.check-row-requires
-check-row-requires c = subst (All (λ w. w ≤ 8)) (sym c.widths.ensures) (muller_sizes c.args.self.now.r c.args.self.now.range).few_width
+pub check_row-requires : goal.check_row-requires
+check_row-requires c = subst (All (λ w. w ≤ 8)) (sym c.widths.ensures) (muller_sizes c.args.self.now.r c.args.self.now.range).few_width
 
-pub returns-in-err-check-row : goal.returns-in-err-check-row
-returns-in-err-check-row c =
+pub returns-in_err-check_row : goal.returns-in_err-check_row
+returns-in_err-check_row c =
     let r = c.args.self.now.r in
     let labels = c.args.labels.now in
     let cells = c.args.cells.now in
     let stages = (muller_sizes r c.args.self.now.range).stages in
-    let due = sym (same_row labels cells c.cells.ensures c.widths.ensures stages) ∙ checked_err _ c.in-err-check-row.ensures in
-    (λ _. (raised _ c.from-residual.ensures.1 ∙ ap checked (sym due), ap (λ z. kept_or z cells (muller_word r labels)) (sym due)), λ no. absurd (no tt))
+    let due = sym (same_row labels cells c.cells.ensures c.widths.ensures stages) ∙ checked_err _ c.in_err-check_row.ensures in
+    (λ _. (raised _ c.from_residual.ensures.1 ∙ ap checked (sym due), ap (λ z. kept_or z cells (muller_word r labels)) (sym due)), λ no. absurd (no tt))
 
 pub join-row-requires : goal.join-row-requires
 join-row-requires c =
     let r = c.args.self.now.r in
     let stages = (muller_sizes r c.args.self.now.range).stages in
-    let fits = row_fits (2 ^ r) (r + 1) (at_stage (muller_widths r)) c.args.labels.now c.args.cells.now (row_passed c.args.labels.now c.args.cells.now c.cells.ensures c.widths.ensures stages c.in-ok-check-row.ensures) in
+    let fits = row_fits (2 ^ r) (r + 1) (at_stage (muller_widths r)) c.args.labels.now c.args.cells.now (row_passed c.args.labels.now c.args.cells.now c.cells.ensures c.widths.ensures stages c.in_ok-check_row.ensures) in
     (omega (arith, fits.many), fits.each)
 
 pub unpack-requires : goal.unpack-requires
 unpack-requires c =
     let r = c.args.self.now.r in
     let sizes = muller_sizes r c.args.self.now.range in
-    let fits = row_fits (2 ^ r) (r + 1) (at_stage (muller_widths r)) c.args.labels.now c.args.cells.now (row_passed c.args.labels.now c.args.cells.now c.cells.ensures c.widths.ensures sizes.stages c.in-ok-check-row.ensures) in
+    let fits = row_fits (2 ^ r) (r + 1) (at_stage (muller_widths r)) c.args.labels.now c.args.cells.now (row_passed c.args.labels.now c.args.cells.now c.cells.ensures c.widths.ensures sizes.stages c.in_ok-check_row.ensures) in
     omega (arith, fits.room, sizes.few_cells)
 
 pub returns : goal.returns
@@ -47,12 +47,12 @@ returns c =
     let labels = c.args.labels.now in
     let cells = c.args.cells.now in
     let stages = (muller_sizes r c.args.self.now.range).stages in
-    let due = row_passed labels cells c.cells.ensures c.widths.ensures stages c.in-ok-check-row.ensures in
+    let due = row_passed labels cells c.cells.ensures c.widths.ensures stages c.in_ok-check_row.ensures in
     let fits = row_fits (2 ^ r) (r + 1) (at_stage (muller_widths r)) labels cells due in
     let word : c.unpack.new.cells ≡ muller_word r labels =
     c.unpack.ensures
-    ∙ ap (λ k. bits_of k c.take-off.result) fits.room
-    ∙ c.take-off.ensures.is
+    ∙ ap (λ k. bits_of k c.take_off.result) fits.room
+    ∙ c.take_off.ensures.is
     ∙ ap₂ (laid (columns r)) c.join-row.ensures.bits (bits_none (2 ^ r))
     ∙ sym (word_is r c.args.self.now.range labels) in
     (λ _. (ap checked (sym due), word ∙ ap (λ z. kept_or z cells (muller_word r labels)) (sym due)), λ no. absurd (no tt))

@@ -16,12 +16,13 @@ returns-then-mark-ne0 c =
     let model = open_code self.width self.len in
     let word = c.args.word.now in
     let marks = c.args.marks.now in
-    let none = correct_passes model _ (shifted self.width self.narrow) word marks c.in-ok-check-correct.ensures in
+    let none = correct_passes model _ (shifted self.width self.narrow) word marks c.in_ok-check_correct.ensures in
     let fit = damage_fits model word marks none in
     record {
       sound = λ _. subst (λ f. Corrected model word marks word (Err f)) (sym c.new.ensures) (uncorrected model word marks 0 none refl
           (λ u near. let blank = blank_harms word marks u c.loop-mark.mark-index (fit.1.0 ∙ sym fit.0.0) (near.0.0 ∙ sym fit.0.0) c.loop-mark-test.true c.if-mark-ne0.true in omega (arith, blank, near.1)));
       unsound = λ no. absurd (no tt);
+      refused = λ no. absurd (no tt);
     }
 
 pub returns : goal.returns
@@ -30,10 +31,11 @@ returns c =
     let model = open_code self.width self.len in
     let word = c.args.word.now in
     let marks = c.args.marks.now in
-    let none = correct_passes model _ (shifted self.width self.narrow) word marks c.in-ok-check-correct.ensures in
+    let none = correct_passes model _ (shifted self.width self.narrow) word marks c.in_ok-check_correct.ensures in
     let fit = damage_fits model word marks none in
     let clean = no_harm word marks (subst (All (λ m. m ≡ 0)) (take_all _ _ c.loop-mark-test.false) c.loop-mark.invariant) in
     record {
       sound = λ _. corrected model word marks word 0 none word (fit.0, omega (arith, clean)) refl (sym clean);
       unsound = λ no. absurd (no tt);
+      refused = λ no. absurd (no tt);
     }

@@ -10,9 +10,10 @@ returns c =
     let model = open_code self.width self.len in
     let word = c.args.word.now in
     let message = c.args.message.now in
-    let none = message_of_passes model _ (shifted self.width self.narrow) message word c.in-ok-check-message-of.ensures in
+    let none = message_of_passes model _ (shifted self.width self.narrow) message word c.in_ok-check_message_of.ensures in
     let fit = word_fits model message word none in
     record {
-      sound = λ _. subst (λ (m : List ℕ). Recovered model word message m (Ok tt)) (sym c.copy-from-slice.ensures.after) (recovered model word message word none fit.0 refl);
+      sound = λ _. subst (λ (m : List ℕ). Recovered model word message m (Ok tt)) (sym c.copy_from_slice.ensures.after) (recovered model word message word none fit.0 refl);
       unsound = λ no. absurd (no tt);
+      refused = λ no. absurd (no tt);
     }

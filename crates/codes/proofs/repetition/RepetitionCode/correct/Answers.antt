@@ -8,37 +8,38 @@ use Rattle.codes.specs.Repeats.{more_is_nearer, first_symbol}
 use Rattle.codes.proofs.Working.{shifted, correct_passes, damage_fits, corrected, uncorrected}
 use Rattle.codes.proofs.repetition.RepetitionCode.correct.Goals as goal
 
-pub harm-against-requires : goal.harm-against-requires
-harm-against-requires c =
+pub harm_against-requires : goal.harm_against-requires
+harm_against-requires c =
     let self = c.args.self.now in
     let model = repetition_code self.width self.len in
     let word = c.args.word.now in
     let marks = c.args.marks.now in
-    let none = correct_passes model _ (shifted self.width self.narrow) word marks c.in-ok-check-correct.ensures in
+    let none = correct_passes model _ (shifted self.width self.narrow) word marks c.in_ok-check_correct.ensures in
     let fit = damage_fits model word marks none in
     (omega (arith, fit.0.0, self.short), (fit.1.0 ∙ sym fit.0.0, fit.1.1))
 
-pub returns-in-err-check-near : goal.returns-in-err-check-near
-returns-in-err-check-near c =
+pub returns-in_err-check_near : goal.returns-in_err-check_near
+returns-in_err-check_near c =
     let self = c.args.self.now in
     let m = self.width in
     let n = self.len in
     let model = repetition_code m n in
     let word = c.args.word.now in
     let marks = c.args.marks.now in
-    let none = correct_passes model _ (shifted m self.narrow) word marks c.in-ok-check-correct.ensures in
+    let none = correct_passes model _ (shifted m self.narrow) word marks c.in_ok-check_correct.ensures in
     let fit = damage_fits model word marks none in
     let p = c.majority-symbol.result in
-    let f = c.in-ok-found.ensures in
-    let found : c.in-ok-found.found ≡ harm word marks (replicate (length word) p) = cc in
+    let f = c.in_ok-found.ensures in
+    let found : c.in_ok-found.found ≡ harm word marks (replicate (length word) p) = cc in
     let far : (u : List ℕ) → (length u ≡ 1) → get_or u 0 0 < 2 ^ m → harm word marks (replicate n (get_or u 0 0)) < n → ⊥ = λ u one small near.
     let s = get_or u 0 0 in
     let fewer = c.majority-symbol.ensures.1 s (subst (λ (k : ℕ). s < k) (sym (shifted m self.narrow)) small) in
     let nearer = more_is_nearer p s word marks (fit.1.0 ∙ sym fit.0.0) fewer in
-    omega (arith, nearer, found, ap (λ k. harm word marks (replicate k s)) fit.0.0, near, c.in-err-check-near.ensures.0) in
+    omega (arith, nearer, found, ap (λ k. harm word marks (replicate k s)) fit.0.0, near, c.in_err-check_near.ensures.0) in
     record {
-      sound = λ _. rw (raised _ c.from-residual-in-err-check-near.ensures.1, c.in-err-check-near.ensures.1) (uncorrected model word marks 0 none refl (λ u near. far u near.0.0 (first_symbol m u near.0.0 near.0.1) near.1));
+      sound = λ _. rw (raised _ c.from_residual-in_err-check_near.ensures.1, c.in_err-check_near.ensures.1) (uncorrected model word marks 0 none refl (λ u near. far u near.0.0 (first_symbol m u near.0.0 near.0.1) near.1));
       unsound = λ no. absurd (no tt);
+      refused = λ no. absurd (no tt);
     }
 
 pub returns : goal.returns
@@ -49,15 +50,16 @@ returns c =
     let model = repetition_code m n in
     let word = c.args.word.now in
     let marks = c.args.marks.now in
-    let none = correct_passes model _ (shifted m self.narrow) word marks c.in-ok-check-correct.ensures in
+    let none = correct_passes model _ (shifted m self.narrow) word marks c.in_ok-check_correct.ensures in
     let fit = damage_fits model word marks none in
     let p = c.majority-symbol.result in
-    let f = c.in-ok-found.ensures in
-    let found : c.in-ok-found.found ≡ harm word marks (replicate (length word) p) = cc in
-    let is : c.in-ok-found.found ≡ harm word marks (replicate n p) = found ∙ ap (λ k. harm word marks (replicate k p)) fit.0.0 in
+    let f = c.in_ok-found.ensures in
+    let found : c.in_ok-found.found ≡ harm word marks (replicate (length word) p) = cc in
+    let is : c.in_ok-found.found ≡ harm word marks (replicate n p) = found ∙ ap (λ k. harm word marks (replicate k p)) fit.0.0 in
     let small : p < 2 ^ m = subst (λ (k : ℕ). p < k) (shifted m self.narrow) c.majority-symbol.ensures.0 in
     let filled : c.fill.new.self ≡ replicate n p = c.fill.ensures.after (λ y e. e) ∙ ap (λ k. replicate k p) fit.0.0 in
     record {
-      sound = λ _. corrected model word marks c.fill.new.self c.in-ok-found.found none (p ∷ []) ((refl, (small, tt)), omega (arith, is, c.in-ok-check-near.ensures)) filled is;
+      sound = λ _. corrected model word marks c.fill.new.self c.in_ok-found.found none (p ∷ []) ((refl, (small, tt)), omega (arith, is, c.in_ok-check_near.ensures)) filled is;
       unsound = λ no. absurd (no tt);
+      refused = λ no. absurd (no tt);
     }

@@ -14,12 +14,13 @@ returns-then-symbol-first c =
     let model = repetition_code self.width self.len in
     let word = c.args.word.now in
     let message = c.args.message.now in
-    let none = message_of_passes model _ (shifted self.width self.narrow) message word c.in-ok-check-message-of.ensures in
+    let none = message_of_passes model _ (shifted self.width self.narrow) message word c.in_ok-check_message_of.ensures in
     let fit = word_fits model message word none in
     let some : 0 < length word = omega (arith, fit.0.0, self.some_places) in
     record {
       sound = λ _. subst (λ (f : Fault). Recovered model word message message (Err f)) (sym c.new.ensures) (unrecovered model word message none (λ u mu e. c.if-symbol-first.true (same_everywhere self.len (get_or u 0 0) word e c.loop-symbol.symbol-index 0 c.loop-symbol-test.true some)));
       unsound = λ no. absurd (no tt);
+      refused = λ no. absurd (no tt);
     }
 
 pub loop-symbol-preserved : goal.loop-symbol-preserved
@@ -34,7 +35,7 @@ returns c =
     let word = c.args.word.now in
     let message = c.args.message.now in
     let first = get_or word 0 0 in
-    let none = message_of_passes model _ (shifted self.width self.narrow) message word c.in-ok-check-message-of.ensures in
+    let none = message_of_passes model _ (shifted self.width self.narrow) message word c.in_ok-check_message_of.ensures in
     let fit = word_fits model message word none in
     let small = All-get_or (λ x. x < 2 ^ self.width) word 0 0 (omega (arith, fit.0.0, self.some_places)) fit.0.1 in
     let same = all_same first word (subst (All (λ x. x ≡ first)) (take_all _ _ c.loop-symbol-test.false) c.loop-symbol.invariant) in
@@ -42,4 +43,5 @@ returns c =
     record {
       sound = λ _. subst (λ (u : List ℕ). Recovered model word message u (Ok tt)) (sym (set_single message first fit.1)) (recovered model word message (first ∷ []) none (refl, (small, tt)) whole);
       unsound = λ no. absurd (no tt);
+      refused = λ no. absurd (no tt);
     }

@@ -5,8 +5,8 @@ use Rattle.recipes.specs.Totals.{Bounded}
 use Rattle.recipes.proofs.Bounds.{all_bounded, few_used}
 use Rattle.recipes.proofs.recipe.Recipe.message_bits.Goals as goal
 
-pub sum-bits-requires : goal.sum-bits-requires
-sum-bits-requires c =
+pub sum_bits-requires : goal.sum_bits-requires
+sum_bits-requires c =
     let t = c.args.self.now.table in
     let h = c.args.self.now.lawful in
     subst (λ (xs : List Stage). All Bounded xs × (length xs ≤ 5)) (sym c.stages.ensures) (all_bounded t h, few_used t h)

@@ -5,8 +5,8 @@ use Rattle.recipes.specs.Totals.{Bounded}
 use Rattle.recipes.proofs.Bounds.{all_bounded, some_used}
 use Rattle.recipes.proofs.recipe.Recipe.reach.Goals as goal
 
-pub least-reach-requires : goal.least-reach-requires
-least-reach-requires c =
+pub least_reach-requires : goal.least_reach-requires
+least_reach-requires c =
     let t = c.args.self.now.table in
     let h = c.args.self.now.lawful in
     subst (λ (xs : List Stage). All Bounded xs × (0 < length xs)) (sym c.stages.ensures) (all_bounded t h, some_used t h)

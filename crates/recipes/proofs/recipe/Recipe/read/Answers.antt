@@ -3,17 +3,17 @@ use Rattle.recipes.proofs.Uniqueness.{single_meaning}
 use Rattle.recipes.proofs.recipe.Recipe.read.Goals as goal
 
 -- what the bytes describe is lawful
-pub invariant-of-result : goal.invariant-of-result
-invariant-of-result c = (∣ c.in-ok-table.ensures.lawful ∣₁, tt)
+pub invariant_of-result : goal.invariant_of-result
+invariant_of-result c = record { lawful = ∣ c.in_ok-table.ensures.lawful ∣₁ }
 
-pub returns-in-err-chain : goal.returns-in-err-chain
-returns-in-err-chain c = record { reads = search rules; single = single_meaning c.args.bytes.now }
+pub returns-in_err-chain : goal.returns-in_err-chain
+returns-in_err-chain c = record { reads = search rules; single = single_meaning c.args.bytes.now }
 
-pub returns-in-err-columns : goal.returns-in-err-columns
-returns-in-err-columns c = record { reads = search rules; single = single_meaning c.args.bytes.now }
+pub returns-in_err-columns : goal.returns-in_err-columns
+returns-in_err-columns c = record { reads = search rules; single = single_meaning c.args.bytes.now }
 
-pub returns-in-err-table : goal.returns-in-err-table
-returns-in-err-table c = record { reads = search rules; single = single_meaning c.args.bytes.now }
+pub returns-in_err-table : goal.returns-in_err-table
+returns-in_err-table c = record { reads = search rules; single = single_meaning c.args.bytes.now }
 
 pub returns : goal.returns
 returns c = record { reads = search rules; single = single_meaning c.args.bytes.now }

@@ -6,8 +6,8 @@ use Rattle.recipes.proofs.recipe.Recipe.stages.Goals as goal
 pub stages-requires : goal.stages-requires
 stages-requires c = known_chain c.args.self.now.table c.args.self.now.lawful
 
-pub slice-bounds-result-end : goal.slice-bounds-result-end
-slice-bounds-result-end c =
+pub slice_bounds-result-end : goal.slice_bounds-result-end
+slice_bounds-result-end c =
     let t = c.args.self.now.table in
     let few = few_stages t.chain (known_chain t c.args.self.now.lawful) in
     search rules
