@@ -3,8 +3,8 @@ use Rattle.std.proofs.ByRecursion.{All-get_or}
 use Rattle.media_laws.proofs.Packs.{put_more}
 use Rattle.media.proofs.packed.store.Goals as goal
 
-pub put-cell-requires : goal.put-cell-requires
-put-cell-requires c =
+pub put_cell-requires : goal.put_cell-requires
+put_cell-requires c =
     (omega arith, (omega arith, All-get_or (λ x. x < 2) c.args.cells.now c.loop-i.i 0 c.loop-i-test.true c.requires.cells))
 
 pub loop-i-preserved : goal.loop-i-preserved

@@ -4,8 +4,8 @@ use Rattle.media_laws.specs.Model.{value_of, mark_of}
 use Rattle.media_laws.proofs.Pages.{page_within, length_page}
 use Rattle.media.proofs.grid.Grid.show_page.Goals as goal
 
-pub slice-bounds-show-end : goal.slice-bounds-show-end
-slice-bounds-show-end c =
+pub slice_bounds-show-end : goal.slice_bounds-show-end
+slice_bounds-show-end c =
     let self = c.args.self.now in
     let within = page_within self.bytes.now self.breadth self.pages c.requires.0.2 c.args.page c.requires.1.0 in
     search rules

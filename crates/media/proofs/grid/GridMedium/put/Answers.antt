@@ -11,11 +11,11 @@ use Rattle.media_laws.proofs.Pages.{page_within, length_page, length_over}
 use Rattle.media.proofs.Working.{worked, none_of_both, page_passed}
 use Rattle.media.proofs.grid.GridMedium.put.Goals as goal
 
-pub slice-bounds-store-end : goal.slice-bounds-store-end
-slice-bounds-store-end c =
+pub slice_bounds-store-end : goal.slice_bounds-store-end
+slice_bounds-store-end c =
     let self = c.args.self.now in
-    let fits = c.in-ok-check.ensures.sound in
-    let page = page_passed c.args.page self.pages _ (checked_ok _ c.in-ok-check-page.ensures) in
+    let fits = c.in_ok-check.ensures.sound in
+    let page = page_passed c.args.page self.pages _ (checked_ok _ c.in_ok-check_page.ensures) in
     let within = page_within self.bytes.now self.breadth self.pages fits.2 c.args.page page in
     search rules
 
@@ -27,9 +27,9 @@ returns c =
     let n = self.breadth in
     let cells = c.args.cells.now in
     let model = grid bytes self.pages n in
-    let fits = c.in-ok-check.ensures.sound in
-    let page-ok = checked_ok _ c.in-ok-check-page.ensures in
-    let put-ok = checked_ok _ c.in-ok-check-put.ensures in
+    let fits = c.in_ok-check.ensures.sound in
+    let page-ok = checked_ok _ c.in_ok-check_page.ensures in
+    let put-ok = checked_ok _ c.in_ok-check_put.ensures in
     let page = page_passed p self.pages _ page-ok in
     let given = fits_from_none Medium (values_below 2 n cells ∷ []) put-ok in
     let span : p * n + n - p * n ≡ n = omega arith in
@@ -40,6 +40,7 @@ returns c =
     record {
       sound = λ _. subst Good (sym after) ((fits.0, fits.1, length_over bytes n self.pages fits.2 (put_bytes (page_bytes bytes n p) cells) p page long), worked _ _ _ (none_of_both (page_refusal model p) (refusal Medium (values_below 2 n cells ∷ [])) page-ok put-ok) (refl, grid_put bytes self.pages n fits p page cells given.0.1));
       unsound = λ no. absurd (no fits);
+      refused = λ no. absurd (no fits);
       lender = refl;
       bytes = after;
     }

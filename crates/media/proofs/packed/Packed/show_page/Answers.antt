@@ -14,8 +14,8 @@ show-requires c =
     let behind = marks_behind n p in
     let within = marks_within self.bytes.now self.pages n c.requires.0 p c.requires.1.0 in
     record {
-      values = omega (arith, c.first-value-value.ensures, c.requires.1.1.0);
-      marks = omega (arith, c.first-mark-mark.ensures, c.requires.1.1.0);
+      values = omega (arith, c.first_value-value.ensures, c.requires.1.1.0);
+      marks = omega (arith, c.first_mark-mark.ensures, c.requires.1.1.0);
       lengths = (c.requires.1.1.1 ∙ sym c.requires.1.1.0, few_bytes self.bytes.now self.pages n c.requires.0);
     }
 
@@ -25,5 +25,5 @@ returns c =
     let n = self.breadth in
     let bytes = self.bytes.now in
     let p = c.args.page in
-    let laid : (f : ℕ → ℕ) → map (λ i. f (cell_at bytes c.first-value-value.result c.first-mark-mark.result i)) (range_with_len 0 (length c.args.cells.now)) ≡ map f (map (cell_at bytes (first_value n p) (first_mark n p)) (range_with_len 0 n)) = λ f. ap (λ v. map (λ i. f (cell_at bytes v c.first-mark-mark.result i)) (range_with_len 0 (length c.args.cells.now))) c.first-value-value.ensures ∙ ap (λ m. map (λ i. f (cell_at bytes (first_value n p) m i)) (range_with_len 0 (length c.args.cells.now))) c.first-mark-mark.ensures ∙ ap (λ k. map (λ i. f (cell_at bytes (first_value n p) (first_mark n p) i)) (range_with_len 0 k)) c.requires.1.1.0 ∙ map_map f (cell_at bytes (first_value n p) (first_mark n p)) (range_with_len 0 n) in
+    let laid : (f : ℕ → ℕ) → map (λ i. f (cell_at bytes c.first_value-value.result c.first_mark-mark.result i)) (range_with_len 0 (length c.args.cells.now)) ≡ map f (map (cell_at bytes (first_value n p) (first_mark n p)) (range_with_len 0 n)) = λ f. ap (λ v. map (λ i. f (cell_at bytes v c.first_mark-mark.result i)) (range_with_len 0 (length c.args.cells.now))) c.first_value-value.ensures ∙ ap (λ m. map (λ i. f (cell_at bytes (first_value n p) m i)) (range_with_len 0 (length c.args.cells.now))) c.first_mark-mark.ensures ∙ ap (λ k. map (λ i. f (cell_at bytes (first_value n p) (first_mark n p) i)) (range_with_len 0 k)) c.requires.1.1.0 ∙ map_map f (cell_at bytes (first_value n p) (first_mark n p)) (range_with_len 0 n) in
     record { cells = c.show.ensures.cells ∙ laid value_of; marks = c.show.ensures.marks ∙ laid mark_of }

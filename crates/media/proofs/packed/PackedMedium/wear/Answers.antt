@@ -6,14 +6,14 @@ use Rattle.media_laws.proofs.Packs.{marks_behind, marks_within, packed_wear}
 use Rattle.media.proofs.Working.{worked, none_of_both, page_passed, cell_passed}
 use Rattle.media.proofs.packed.PackedMedium.wear.Goals as goal
 
-pub wear-bits-requires : goal.wear-bits-requires
-wear-bits-requires c =
+pub wear_bits-requires : goal.wear_bits-requires
+wear_bits-requires c =
     let self = c.args.self.now in
     let n = self.breadth in
     let p = c.args.page in
-    let fits = c.in-ok-check.ensures.sound in
-    let page = page_passed p self.pages _ (checked_ok _ c.in-ok-check-page.ensures) in
-    let cell = cell_passed c.args.cell n c.args.state _ (checked_ok _ c.in-ok-check-cell.ensures) in
+    let fits = c.in_ok-check.ensures.sound in
+    let page = page_passed p self.pages _ (checked_ok _ c.in_ok-check_page.ensures) in
+    let cell = cell_passed c.args.cell n c.args.state _ (checked_ok _ c.in_ok-check_cell.ensures) in
     let behind = marks_behind n p in
     let within = marks_within self.bytes.now self.pages n fits p page in
     (omega (arith, c.first_value.ensures, c.first_mark.ensures), (omega (arith, c.first_mark.ensures), cell.1))
@@ -27,15 +27,16 @@ returns c =
     let i = c.args.cell in
     let s = c.args.state in
     let model = packed bytes self.pages n in
-    let fits = c.in-ok-check.ensures.sound in
-    let page-ok = checked_ok _ c.in-ok-check-page.ensures in
-    let cell-ok = checked_ok _ c.in-ok-check-cell.ensures in
+    let fits = c.in_ok-check.ensures.sound in
+    let page-ok = checked_ok _ c.in_ok-check_page.ensures in
+    let cell-ok = checked_ok _ c.in_ok-check_cell.ensures in
     let cell = cell_passed i n s _ cell-ok in
-    let bytes' = c.wear-bits.new.bytes in
-    let worn : BitsWorn bytes bytes' (first_value n p + i) (first_mark n p + i) s = subst₂ (λ (v m : ℕ). BitsWorn bytes bytes' (v + i) (m + i) s) c.first_value.ensures c.first_mark.ensures c.wear-bits.ensures in
+    let bytes' = c.wear_bits.new.bytes in
+    let worn : BitsWorn bytes bytes' (first_value n p + i) (first_mark n p + i) s = subst₂ (λ (v m : ℕ). BitsWorn bytes bytes' (v + i) (m + i) s) c.first_value.ensures c.first_mark.ensures c.wear_bits.ensures in
     record {
       sound = λ _. ((fits.0, fits.1, worn.long ∙ fits.2), worked _ _ _ (none_of_both (page_refusal model p) (cell_refusal model i s) page-ok cell-ok) (refl, packed_wear bytes bytes' self.pages n p i s cell.0 cell.1 worn));
       unsound = λ no. absurd (no fits);
+      refused = λ no. absurd (no fits);
       lender = refl;
       bytes = worn;
     }
