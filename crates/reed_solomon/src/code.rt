@@ -37,7 +37,7 @@ impl<F: Field + Copy> ReedSolomon<F> {
 
 /// Ok if the field is sound and the lengths are those of the kind.
 fn check_kind<F: Field>(field: &F, len: usize, message_len: usize) -> Result<(), Fault>
-    ensures { Fits (sound field.now) (model field.now) len message_len result }
+    ensures { Fits (F.sound field.now) (F.model field.now) len message_len result }
 {
     field.check()?;
     if len > 1 << field.width() || message_len < 1 || message_len > len {
@@ -48,7 +48,7 @@ fn check_kind<F: Field>(field: &F, len: usize, message_len: usize) -> Result<(),
 
 /// The same as `check_kind`; where it is Ok, each codeword is the only one that begins with its message.
 fn check_systematic<F: Field>(field: &F, len: usize, message_len: usize) -> Result<(), Fault>
-    ensures { Makes (sound field.now) (model field.now) len message_len (λ _. Unit {0}) result }
+    ensures { Makes (F.sound field.now) (F.model field.now) len message_len (λ _. Unit {0}) result }
 {
     check_kind(field, len, message_len)?;
     Ok(())
@@ -56,8 +56,8 @@ fn check_systematic<F: Field>(field: &F, len: usize, message_len: usize) -> Resu
 
 /// How many elements a sound field has.
 fn elements<F: Field>(field: &F) -> usize
-    requires { sound field.now }
-    ensures { result ≡ type_size (model field.now) }
+    requires { F.sound field.now }
+    ensures { result ≡ type_size (F.model field.now) }
 {
     1 << field.width()
 }

@@ -9,16 +9,16 @@ use words::fault::{Fault, Kind, Layer};
 
 /// The same as `write_codeword`, with room to work in.
 fn write_in<F: Field>(field: &F, message: &[u8], skip: &[u8], word: &mut [u8], product: &mut [u8])
-    requires { (sound field.now) × ((MessageOfKind (model field.now) (length word.old) message.now) × ((length product.old ≡ length word.old) × (skip.now ≡ replicate 256 0))) }
-    ensures { word.new ≡ (reed_solomon (model field.now) (length word.old) (length message.now)).codeword message.now }
+    requires { (F.sound field.now) × ((MessageOfKind (F.model field.now) (length word.old) message.now) × ((length product.old ≡ length word.old) × (skip.now ≡ replicate 256 0))) }
+    ensures { word.new ≡ (reed_solomon (F.model field.now) (length word.old) (length message.now)).codeword message.now }
 {
     through(field, message.len(), message, skip, word, product);
 }
 
 /// Writes the codeword that begins with a message.
 pub(crate) fn write_codeword<F: Field>(field: &F, message: &[u8], word: &mut [u8])
-    requires { (sound field.now) × ((MessageOfKind (model field.now) (length word.old) message.now) × (length word.old ≤ 256)) }
-    ensures { word.new ≡ (reed_solomon (model field.now) (length word.old) (length message.now)).codeword message.now }
+    requires { (F.sound field.now) × ((MessageOfKind (F.model field.now) (length word.old) message.now) × (length word.old ≤ 256)) }
+    ensures { word.new ≡ (reed_solomon (F.model field.now) (length word.old) (length message.now)).codeword message.now }
 {
     let n = word.len();
     let skip = [0; 256];
@@ -33,8 +33,8 @@ fn compare<F: Field>(
     word: &[u8],
     codeword: &mut [u8],
 ) -> Result<(), Fault>
-    requires { (sound field.now) × ((MessageOfKind (model field.now) (length word.now) message.now) × ((length word.now ≤ 256) × (length codeword.old ≡ length word.now))) }
-    ensures { Recognized (model field.now) message.now word.now result }
+    requires { (F.sound field.now) × ((MessageOfKind (F.model field.now) (length word.now) message.now) × ((length word.now ≤ 256) × (length codeword.old ≡ length word.now))) }
+    ensures { Recognized (F.model field.now) message.now word.now result }
 {
     write_codeword(field, message, codeword);
     for (j, symbol) in word.iter().enumerate() {
@@ -47,8 +47,8 @@ fn compare<F: Field>(
 
 /// Ok if a word is the codeword of a message; else 12.
 pub(crate) fn recognize<F: Field>(field: &F, message: &[u8], word: &[u8]) -> Result<(), Fault>
-    requires { (sound field.now) × ((MessageOfKind (model field.now) (length word.now) message.now) × (length word.now ≤ 256)) }
-    ensures { Recognized (model field.now) message.now word.now result }
+    requires { (F.sound field.now) × ((MessageOfKind (F.model field.now) (length word.now) message.now) × (length word.now ≤ 256)) }
+    ensures { Recognized (F.model field.now) message.now word.now result }
 {
     let n = word.len();
     let mut codeword = [0; 256];

@@ -10,8 +10,8 @@ use fields::field::Field;
 
 /// Brings v to a symbol at x by a multiple of p, which vanishes at the places taken before, and makes x a root of p too.
 fn take_place<F: Field>(field: &F, x: usize, symbol: u8, v: &mut [u8], p: &mut [u8])
-    requires { (sound field.now) × ((x < length p.old) × ((length p.old ≤ type_size (model field.now)) × ((symbol < type_size (model field.now)) × (Beside (model field.now) p.old v.old × (slice_index p.old x ≢ 0))))) }
-    ensures { Taken (model field.now) (length p.old) x symbol v.old p.old v.new p.new }
+    requires { (F.sound field.now) × ((x < length p.old) × ((length p.old ≤ type_size (F.model field.now)) × ((symbol < type_size (F.model field.now)) × (Beside (F.model field.now) p.old v.old × (slice_index p.old x ≢ 0))))) }
+    ensures { Taken (F.model field.now) (length p.old) x symbol v.old p.old v.new p.new }
 {
     let off = add(field, symbol, v[x]);
     let inverse = invert(field, p[x]);
@@ -36,8 +36,8 @@ pub(crate) fn through<F: Field>(
     v: &mut [u8],
     p: &mut [u8],
 ) -> usize
-    requires { (sound field.now) × (Rows (model field.now) symbols.now skip.now v.old p.old) }
-    ensures { Interpolated (model field.now) (length v.old) wanted symbols.now skip.now (length symbols.now) v.new p.new result }
+    requires { (F.sound field.now) × (Rows (F.model field.now) symbols.now skip.now v.old p.old) }
+    ensures { Interpolated (F.model field.now) (length v.old) wanted symbols.now skip.now (length symbols.now) v.new p.new result }
 {
     v.fill(0);
     p.fill(1);

@@ -11,16 +11,16 @@ use fields::field::Field;
 
 /// (y + g) / p
 fn quotient<F: Field>(field: &F, y: u8, g: u8, p: u8) -> u8
-    requires { (sound field.now) × ((y < type_size (model field.now)) × ((g < type_size (model field.now)) × ((p < type_size (model field.now)) × ((p ≢ 0))))) }
-    ensures { (Over (model field.now) y g p result) × (result < type_size (model field.now)) }
+    requires { (F.sound field.now) × ((y < type_size (F.model field.now)) × ((g < type_size (F.model field.now)) × ((p < type_size (F.model field.now)) × ((p ≢ 0))))) }
+    ensures { (Over (F.model field.now) y g p result) × (result < type_size (F.model field.now)) }
 {
     multiply(field, add(field, y, g), invert(field, p))
 }
 
 /// q + t·e
 fn miss<F: Field>(field: &F, t: u8, q: u8, e: u8) -> u8
-    requires { (sound field.now) × ((t < type_size (model field.now)) × ((q < type_size (model field.now)) × (e < type_size (model field.now)))) }
-    ensures { (result ≡ (model field.now).sum q ((model field.now).product t e)) × (result < type_size (model field.now)) }
+    requires { (F.sound field.now) × ((t < type_size (F.model field.now)) × ((q < type_size (F.model field.now)) × (e < type_size (F.model field.now)))) }
+    ensures { (result ≡ (F.model field.now).sum q ((F.model field.now).product t e)) × (result < type_size (F.model field.now)) }
 {
     add(field, q, multiply(field, t, e))
 }
@@ -35,8 +35,8 @@ fn eliminate<F: Field>(
     u: &mut [u8],
     w: &mut [u8],
 )
-    requires { (sound field.now) × (((x < length q.old) × (length q.old ≤ type_size (model field.now))) × (((gaps.0 < type_size (model field.now)) × (gaps.1 < type_size (model field.now))) × (Pairs (model field.now) (length q.old) q.old e.old u.old w.old))) }
-    ensures { Eliminated (model field.now) (length q.old) x gaps.0 gaps.1 q.old e.old u.old w.old q.new e.new u.new w.new }
+    requires { (F.sound field.now) × (((x < length q.old) × (length q.old ≤ type_size (F.model field.now))) × (((gaps.0 < type_size (F.model field.now)) × (gaps.1 < type_size (F.model field.now))) × (Pairs (F.model field.now) (length q.old) q.old e.old u.old w.old))) }
+    ensures { Eliminated (F.model field.now) (length q.old) x gaps.0 gaps.1 q.old e.old u.old w.old q.new e.new u.new w.new }
 {
     combine(field, gaps.0, u, gaps.1, q);
     combine(field, gaps.0, w, gaps.1, e);
@@ -56,8 +56,8 @@ fn advance<F: Field>(
     q1: &mut [u8],
     e1: &mut [u8],
 ) -> bool
-    requires { (sound field.now) × (((x < length q0.old) × (length q0.old ≤ type_size (model field.now))) × ((t < type_size (model field.now)) × (Pairs (model field.now) (length q0.old) q0.old e0.old q1.old e1.old))) }
-    ensures { Advanced (model field.now) (length q0.old) x t bounds q0.old e0.old q1.old e1.old q0.new e0.new q1.new e1.new result }
+    requires { (F.sound field.now) × (((x < length q0.old) × (length q0.old ≤ type_size (F.model field.now))) × ((t < type_size (F.model field.now)) × (Pairs (F.model field.now) (length q0.old) q0.old e0.old q1.old e1.old))) }
+    ensures { Advanced (F.model field.now) (length q0.old) x t bounds q0.old e0.old q1.old e1.old q0.new e0.new q1.new e1.new result }
 {
     let gap0 = miss(field, t, q0[x], e0[x]);
     let gap1 = miss(field, t, q1[x], e1[x]);
@@ -82,8 +82,8 @@ fn solve<F: Field>(
     q1: &mut [u8],
     e1: &mut [u8],
 ) -> bool
-    requires { (sound field.now) × ((Readings (model field.now) word.now marks.now g.now p.now) × (Lengths (length word.now) q0.old e0.old q1.old e1.old)) }
-    ensures { Located (model field.now) (length word.now) word.now marks.now g.now p.now (if result then e0.new else e1.new) }
+    requires { (F.sound field.now) × ((Readings (F.model field.now) word.now marks.now g.now p.now) × (Lengths (length word.now) q0.old e0.old q1.old e1.old)) }
+    ensures { Located (F.model field.now) (length word.now) word.now marks.now g.now p.now (if result then e0.new else e1.new) }
 {
     q0.fill(1);
     e0.fill(0);
@@ -128,8 +128,8 @@ fn locate_in<F: Field>(
     e1: &mut [u8],
     skip: &mut [u8],
 )
-    requires { (sound field.now) × ((Readings (model field.now) word.now marks.now g.now p.now) × ((Lengths (length word.now) q0.old e0.old q1.old e1.old) × (length skip.old ≡ length word.now))) }
-    ensures { Rightful (model field.now) word.now marks.now g.now p.now skip.new }
+    requires { (F.sound field.now) × ((Readings (F.model field.now) word.now marks.now g.now p.now) × ((Lengths (length word.now) q0.old e0.old q1.old e1.old) × (length skip.old ≡ length word.now))) }
+    ensures { Rightful (F.model field.now) word.now marks.now g.now p.now skip.new }
 {
     if solve(field, word, marks, g, p, q0, e0, q1, e1) {
         mark_roots(marks, e0, skip);
@@ -147,8 +147,8 @@ pub(crate) fn locate<F: Field>(
     p: &[u8],
     skip: &mut [u8],
 )
-    requires { (sound field.now) × ((Readings (model field.now) word.now marks.now g.now p.now) × ((length skip.old ≡ length word.now) × (length word.now ≤ 256))) }
-    ensures { Rightful (model field.now) word.now marks.now g.now p.now skip.new }
+    requires { (F.sound field.now) × ((Readings (F.model field.now) word.now marks.now g.now p.now) × ((length skip.old ≡ length word.now) × (length word.now ≤ 256))) }
+    ensures { Rightful (F.model field.now) word.now marks.now g.now p.now skip.new }
 {
     let n = word.len();
     let mut q0 = [0; 256];

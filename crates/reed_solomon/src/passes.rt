@@ -9,8 +9,8 @@ use fields::field::Field;
 
 /// v + c·p and r·p at one place. Most places have p = 0, where nothing changes.
 fn step<F: Field>(field: &F, c: u8, r: u8, v: u8, p: u8) -> (u8, u8)
-    requires { (sound field.now) × ((c < type_size (model field.now)) × ((r < type_size (model field.now)) × ((v < type_size (model field.now)) × (p < type_size (model field.now))))) }
-    ensures { (result.0 ≡ (model field.now).sum v ((model field.now).product c p)) × (result.1 ≡ (model field.now).product r p) }
+    requires { (F.sound field.now) × ((c < type_size (F.model field.now)) × ((r < type_size (F.model field.now)) × ((v < type_size (F.model field.now)) × (p < type_size (F.model field.now))))) }
+    ensures { (result.0 ≡ (F.model field.now).sum v ((F.model field.now).product c p)) × (result.1 ≡ (F.model field.now).product r p) }
 {
     if p == 0 {
         return (v, p);
@@ -20,8 +20,8 @@ fn step<F: Field>(field: &F, c: u8, r: u8, v: u8, p: u8) -> (u8, u8)
 
 /// v + c·p, and then (X + x)·p, where place j stands for the element numbered j.
 pub(crate) fn take_root<F: Field>(field: &F, c: u8, x: u8, v: &mut [u8], p: &mut [u8])
-    requires { (sound field.now) × ((c < type_size (model field.now)) × ((x < type_size (model field.now)) × ((length p.old ≤ type_size (model field.now)) × (Beside (model field.now) p.old v.old)))) }
-    ensures { Follows v.new (length p.old) (plus_multiple (model field.now) c p.old v.old) × Follows p.new (length p.old) (with_root (model field.now) x p.old) }
+    requires { (F.sound field.now) × ((c < type_size (F.model field.now)) × ((x < type_size (F.model field.now)) × ((length p.old ≤ type_size (F.model field.now)) × (Beside (F.model field.now) p.old v.old)))) }
+    ensures { Follows v.new (length p.old) (plus_multiple (F.model field.now) c p.old v.old) × Follows p.new (length p.old) (with_root (F.model field.now) x p.old) }
 {
     for j in 0..p.len() {
         let factor = add(field, j as u8, x);
@@ -33,8 +33,8 @@ pub(crate) fn take_root<F: Field>(field: &F, c: u8, x: u8, v: &mut [u8], p: &mut
 
 /// a·v + b·p
 pub(crate) fn combine<F: Field>(field: &F, a: u8, v: &mut [u8], b: u8, p: &[u8])
-    requires { (sound field.now) × ((a < type_size (model field.now)) × ((b < type_size (model field.now)) × (Beside (model field.now) p.now v.old))) }
-    ensures { Follows v.new (length p.now) (combination (model field.now) a v.old b p.now) }
+    requires { (F.sound field.now) × ((a < type_size (F.model field.now)) × ((b < type_size (F.model field.now)) × (Beside (F.model field.now) p.now v.old))) }
+    ensures { Follows v.new (length p.now) (combination (F.model field.now) a v.old b p.now) }
 {
     for (j, x) in p.iter().enumerate() {
         v[j] = add(field, multiply(field, a, v[j]), multiply(field, b, *x));
@@ -43,8 +43,8 @@ pub(crate) fn combine<F: Field>(field: &F, a: u8, v: &mut [u8], b: u8, p: &[u8])
 
 /// (X + x)·p, where place j stands for the element numbered j.
 pub(crate) fn add_root<F: Field>(field: &F, x: u8, p: &mut [u8])
-    requires { (sound field.now) × ((x < type_size (model field.now)) × ((length p.old ≤ type_size (model field.now)) × (Below (model field.now) (length p.old) p.old))) }
-    ensures { Follows p.new (length p.old) (with_root (model field.now) x p.old) }
+    requires { (F.sound field.now) × ((x < type_size (F.model field.now)) × ((length p.old ≤ type_size (F.model field.now)) × (Below (F.model field.now) (length p.old) p.old))) }
+    ensures { Follows p.new (length p.old) (with_root (F.model field.now) x p.old) }
 {
     for j in 0..p.len() {
         p[j] = multiply(field, add(field, j as u8, x), p[j]);

@@ -29,8 +29,8 @@ fn guess<F: Field>(
     found: &mut [u8],
     product: &mut [u8],
 ) -> Result<usize, Fault>
-    requires { (sound field.now) × ((Received (model field.now) k word.now marks.now) × ((length skip.now ≡ length word.now) × (length found.old ≡ length word.now) × (length product.old ≡ length word.now))) }
-    ensures { Guessed (model field.now) k word.now marks.now skip.now found.new product.new result }
+    requires { (F.sound field.now) × ((Received (F.model field.now) k word.now marks.now) × ((length skip.now ≡ length word.now) × (length found.old ≡ length word.now) × (length product.old ≡ length word.now))) }
+    ensures { Guessed (F.model field.now) k word.now marks.now skip.now found.new product.new result }
 {
     let taken = through(field, k, word, skip, found, product);
     if taken < k {
@@ -51,8 +51,8 @@ fn find_in<F: Field>(
     product: &mut [u8],
     skip: &mut [u8],
 ) -> Result<usize, Fault>
-    requires { (sound field.now) × ((Received (model field.now) k word.now marks.now) × (((length skip.old ≡ length word.now) × (length found.old ≡ length word.now) × (length product.old ≡ length word.now)) × (length word.now ≤ 256))) }
-    ensures { Found (model field.now) k word.now marks.now found.new result }
+    requires { (F.sound field.now) × ((Received (F.model field.now) k word.now marks.now) × (((length skip.old ≡ length word.now) × (length found.old ≡ length word.now) × (length product.old ≡ length word.now)) × (length word.now ≤ 256))) }
+    ensures { Found (F.model field.now) k word.now marks.now found.new result }
 {
     if let Ok(near) = guess(field, k, word, marks, marks, found, product) {
         return Ok(near);
@@ -71,8 +71,8 @@ fn find<F: Field>(
     marks: &[u8],
     found: &mut [u8],
 ) -> Result<usize, Fault>
-    requires { (sound field.now) × ((Received (model field.now) k word.now marks.now) × ((length found.old ≡ length word.now) × (length word.now ≤ 256))) }
-    ensures { Found (model field.now) k word.now marks.now found.new result }
+    requires { (F.sound field.now) × ((Received (F.model field.now) k word.now marks.now) × ((length found.old ≡ length word.now) × (length word.now ≤ 256))) }
+    ensures { Found (F.model field.now) k word.now marks.now found.new result }
 {
     let n = word.len();
     let mut product = [0; 256];
@@ -96,8 +96,8 @@ fn replace_in<F: Field>(
     marks: &[u8],
     found: &mut [u8],
 ) -> Result<usize, Fault>
-    requires { (sound field.now) × ((Received (model field.now) k word.old marks.now) × ((length found.old ≡ length word.old) × (length word.old ≤ 256))) }
-    ensures { Replaced (model field.now) k word.old marks.now word.new result }
+    requires { (F.sound field.now) × ((Received (F.model field.now) k word.old marks.now) × ((length found.old ≡ length word.old) × (length word.old ≤ 256))) }
+    ensures { Replaced (F.model field.now) k word.old marks.now word.new result }
 {
     let near = find(field, k, word, marks, found)?;
     word.copy_from_slice(found);
@@ -111,8 +111,8 @@ pub(crate) fn replace<F: Field>(
     word: &mut [u8],
     marks: &[u8],
 ) -> Result<usize, Fault>
-    requires { (sound field.now) × ((Received (model field.now) k word.old marks.now) × (length word.old ≤ 256)) }
-    ensures { Replaced (model field.now) k word.old marks.now word.new result }
+    requires { (F.sound field.now) × ((Received (F.model field.now) k word.old marks.now) × (length word.old ≤ 256)) }
+    ensures { Replaced (F.model field.now) k word.old marks.now word.new result }
 {
     let n = word.len();
     let mut found = [0; 256];

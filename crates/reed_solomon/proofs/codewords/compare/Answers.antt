@@ -9,6 +9,6 @@ returns g c =
     let f : FieldModel = g.F.Field.model c.args.field.now in
     let word = c.args.word.now in
     let message = c.args.message.now in
-    let long : length c.write-codeword.new.word ≡ length word = c.write-codeword.auto.word ∙ c.requires.1.1.1 in
+    let long : length c.write_codeword.new.word ≡ length word = c.write_codeword.auto.word ∙ c.requires.1.1.1 in
     subst (λ (m : ℕ). (reed_solomon f m (length message)).codeword message ≡ word) c.requires.1.1.1
-    (sym c.write-codeword.ensures ∙ ext_get_or 0 c.write-codeword.new.word word long (λ j l. c.loop-j.invariant j (omega (arith, long, c.loop-j-test.false))))
+    (sym c.write_codeword.ensures ∙ ext_get_or 0 c.write_codeword.new.word word long (λ j l. c.loop-j.invariant j (omega (arith, long, c.loop-j-test.false))))

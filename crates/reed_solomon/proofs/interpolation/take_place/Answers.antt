@@ -11,11 +11,11 @@ returns g c =
     let i = c.invert-inverse.result in (
       i,
       c.invert-inverse.ensures.0,
-      (λ j l. c.take-root.ensures.0 j l ∙ ap (λ (a : ℕ). f.sum (get_or v j 0) (f.product a (get_or p j 0))) (c.multiply-c.ensures.0 ∙ ap (λ (o : ℕ). f.product o i) c.add-off.ensures.0)),
-      (λ j l. c.take-root.ensures.1 j l),
+      (λ j l. c.take_root.ensures.0 j l ∙ ap (λ (a : ℕ). f.sum (get_or v j 0) (f.product a (get_or p j 0))) (c.multiply-c.ensures.0 ∙ ap (λ (o : ℕ). f.product o i) c.add-off.ensures.0)),
+      (λ j l. c.take_root.ensures.1 j l),
     )
 
-pub overflow-cast-x : goal.overflow-cast-x
-overflow-cast-x g c =
+pub overflow_cast-x : goal.overflow_cast-x
+overflow_cast-x g c =
     let laws : FieldLaws (g.F.Field.model c.args.field.now) = g.met.F.Field.lawful c.args.field.now c.requires.0 in
     record { fits = omega (arith, c.requires.1.0, c.requires.1.1.0, size_most _ laws) }

@@ -3,7 +3,7 @@ use Rattle.std.proofs.lemmas.List.{get_or-replicate}
 use Rattle.field_laws.specs.Fields.{FieldModel, FieldLaws, size}
 use Rattle.reed_solomon_laws.proofs.Arrays.{Below, Interpolated, Taken, interpolated_none, interpolated_at, fresh, passed_over, chosen_more}
 use Rattle.reed_solomon.proofs.interpolation.through.Goals as goal
-use Rattle.reed_solomon.proofs.interpolation.through.Goals.{then-is-chosen, else-is-chosen}
+use Rattle.reed_solomon.proofs.interpolation.through.Goals.{then-is_chosen, else-is_chosen}
 
 pub loop-x-init : goal.loop-x-init
 loop-x-init g c =
@@ -17,8 +17,8 @@ loop-x-init g c =
       omega arith,
     )
 
-pub take-place-requires : goal.take-place-requires
-take-place-requires g c =
+pub take_place-requires : goal.take_place-requires
+take_place-requires g c =
     let f : FieldModel = g.F.Field.model c.args.field.now in
     let laws : FieldLaws f = g.met.F.Field.lawful c.args.field.now c.requires.0 in
     let n = length c.fill.new.self in
@@ -52,17 +52,17 @@ loop-x-preserved g c =
     let x = c.loop-x.x in
     let s = c.loop-x.invariant.0 in
     let long-p : length c.loop-x.p ≡ n = omega (arith, c.loop-x.auto.p, c.fill-2.ensures.len, c.requires.1.3, c.fill.ensures.len) in
-    elim c.if-is-chosen.branch [
-      | then-is-chosen w ↦
-          let done = subst (λ (m : ℕ). Taken f m x (get_or c.args.symbols.now x 0) c.loop-x.v c.loop-x.p w.take-place.new.v w.take-place.new.p) long-p w.take-place.ensures in (
+    elim c.if-is_chosen.branch [
+      | then-is_chosen w ↦
+          let done = subst (λ (m : ℕ). Taken f m x (get_or c.args.symbols.now x 0) c.loop-x.v c.loop-x.p w.take_place.new.v w.take_place.new.p) long-p w.take_place.ensures in (
             interpolated_at w.v-is w.p-is w.taken-is
-                (chosen_more f laws n c.args.wanted le c.args.symbols.now c.args.skip.now x c.loop-x.v c.loop-x.p c.loop-x.taken s w.take-place.new.v w.take-place.new.p
-                (omega (arith, c.loop-x-test.true, c.requires.1.1, c.fill.ensures.len)) (c.requires.1.4 x c.loop-x-test.true) (sym c.is-chosen.ensures ∙ w.if-is-chosen.true) done),
+                (chosen_more f laws n c.args.wanted le c.args.symbols.now c.args.skip.now x c.loop-x.v c.loop-x.p c.loop-x.taken s w.take_place.new.v w.take_place.new.p
+                (omega (arith, c.loop-x-test.true, c.requires.1.1, c.fill.ensures.len)) (c.requires.1.4 x c.loop-x-test.true) (sym c.is_chosen.ensures ∙ w.if-is_chosen.true) done),
             omega (arith, w.taken-is, c.loop-x.invariant.1),
           )
-      | else-is-chosen w ↦ (
+      | else-is_chosen w ↦ (
         interpolated_at w.v-is w.p-is w.taken-is
-            (passed_over f laws n c.args.wanted le c.args.symbols.now c.args.skip.now x c.loop-x.v c.loop-x.p c.loop-x.taken s (sym c.is-chosen.ensures ∙ w.if-is-chosen.false)),
+            (passed_over f laws n c.args.wanted le c.args.symbols.now c.args.skip.now x c.loop-x.v c.loop-x.p c.loop-x.taken s (sym c.is_chosen.ensures ∙ w.if-is_chosen.false)),
         omega (arith, w.taken-is, c.loop-x.invariant.1),
       )
     ]

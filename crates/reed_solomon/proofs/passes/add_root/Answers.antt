@@ -20,7 +20,7 @@ loop-j-preserved g c =
     rewritten_more c.args.p.now p (with_root f c.args.x c.args.p.now) j c.multiply.result within
     (c.multiply.ensures.0 ∙ ap₂ f.product c.add.ensures.0 (c.loop-j.invariant.1 j (omega arith))) c.loop-j.invariant
 
-pub overflow-cast-j : goal.overflow-cast-j
-overflow-cast-j g c =
+pub overflow_cast-j : goal.overflow_cast-j
+overflow_cast-j g c =
     let laws : FieldLaws (g.F.Field.model c.args.field.now) = g.met.F.Field.lawful c.args.field.now c.requires.0 in
     record { fits = omega (arith, c.loop-j.auto.p, c.loop-j-test.true, c.requires.1.1.0, size_most _ laws) }

@@ -5,8 +5,8 @@ use Rattle.reed_solomon_laws.proofs.Rewriting.{rewritten_more}
 use Rattle.reed_solomon.specs.Passes.{plus_multiple, with_root}
 use Rattle.reed_solomon.proofs.passes.take_root.Goals as goal
 
-pub overflow-cast-j : goal.overflow-cast-j
-overflow-cast-j g c =
+pub overflow_cast-j : goal.overflow_cast-j
+overflow_cast-j g c =
     let laws : FieldLaws (g.F.Field.model c.args.field.now) = g.met.F.Field.lawful c.args.field.now c.requires.0 in
     record { fits = omega (arith, c.loop-j.auto.p, c.loop-j-test.true, c.requires.1.1.1.0, size_most _ laws) }
 

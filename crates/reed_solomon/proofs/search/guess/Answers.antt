@@ -8,8 +8,8 @@ use Rattle.reed_solomon_laws.proofs.Numbers.{size_most}
 use Rattle.reed_solomon.proofs.Outcomes.{bytes, measured}
 use Rattle.reed_solomon.proofs.search.guess.Goals as goal
 
-pub returns-in-err-near : goal.returns-in-err-near
-returns-in-err-near g c =
+pub returns-in_err-near : goal.returns-in_err-near
+returns-in_err-near g c =
     let f : FieldModel = g.F.Field.model c.args.field.now in
     let laws : FieldLaws f = g.met.F.Field.lawful c.args.field.now c.requires.0 in
     let word = c.args.word.now in
@@ -19,7 +19,7 @@ returns-in-err-near g c =
     let received = c.requires.1.0 in
     let long : length v ≡ n = c.through-taken.auto.v ∙ c.requires.1.1.1 in
     let s = subst (λ (m : ℕ). Interpolated f m c.args.k word c.args.skip.now n v c.through-taken.new.p c.through-taken.result) c.requires.1.1.1 c.through-taken.ensures in
-    never c.in-err-near.was (c.harm.ensures ∙ measured word marks v (omega (arith, received.0.0, size_most f laws)) received.1 long received.3 (bytes f laws n word (omega arith) received.2) (bytes f laws n v long s.v_below))
+    never c.in_err-near.was (c.harm.ensures ∙ measured word marks v (omega (arith, received.0.0, size_most f laws)) received.1 long received.3 (bytes f laws n word (omega arith) received.2) (bytes f laws n v long s.v_below))
 
 pub returns : goal.returns
 returns g c =
@@ -36,7 +36,7 @@ returns g c =
       s,
       (
         omega (arith, s.taken_is, count_early (readable c.args.skip.now) c.args.k n, c.if-taken-k.false),
-        same_value c.in-ok-near.was (c.harm.ensures ∙ measured word marks v (omega (arith, received.0.0, size_most f laws)) received.1 long received.3 (bytes f laws n word (omega arith) received.2) (bytes f laws n v long s.v_below)),
-        omega (arith, c.in-ok-check-near.ensures, c.distance-of.ensures),
+        same_value c.in_ok-near.was (c.harm.ensures ∙ measured word marks v (omega (arith, received.0.0, size_most f laws)) received.1 long received.3 (bytes f laws n word (omega arith) received.2) (bytes f laws n v long s.v_below)),
+        omega (arith, c.in_ok-check_near.ensures, c.distance_of.ensures),
       ),
     )

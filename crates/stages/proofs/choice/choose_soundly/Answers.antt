@@ -7,15 +7,15 @@ use Rattle.stage_laws.specs.Promises.{length_refusal, first_large}
 use Rattle.stage_laws.proofs.Columns.{fitting}
 use Rattle.stages.proofs.choice.choose_soundly.Goals as goal
 
-pub choose-in-requires : goal.choose-in-requires
-choose-in-requires g c =
+pub choose_in-requires : goal.choose_in-requires
+choose_in-requires g c =
     let m = g.C.Code.model c.args.code.now in
     let lawful = g.met.C.Code.lawful c.args.code.now c.requires in
     let es = c.args.estimates.now in
     let word = c.args.word.now in
-    let len = c.len-len.ensures.1 in
+    let len = c.len-len.ensures c.requires in
     let symbols = ap (λ w. 1 * 2 ^ w % 18446744073709551616) (c.width.ensures c.requires) ∙ shifted m.width lawful.narrow in
-    let none = subst₂ (λ (n s : ℕ). either (length_refusal n (length es)) (either (length_refusal n (length word)) (first_large s c.args.inner 0 es)) ≡ None) len symbols (checked_ok _ c.in-ok-check-choose.ensures) in
+    let none = subst₂ (λ (n s : ℕ). either (length_refusal n (length es)) (either (length_refusal n (length word)) (first_large s c.args.inner 0 es)) ≡ None) len symbols (checked_ok _ c.in_ok-check_choose.ensures) in
     let fits = fitting m c.args.inner es word none in
     let same : c.len-len.result - 0 ≡ c.len-len.result = omega arith in
     let zeros = replicate {A = ℕ} 4096 0 in

@@ -9,8 +9,8 @@ loop-j-preserved c =
     let es = c.args.estimates.now in
     let j = c.loop-j.j in
     let here : j < length es = omega (arith, c.loop-j-test.true) in (
-      filled_more trial_symbol es c.loop-j.word j c.symbol-of.result here (omega (arith, c.requires.word)) c.loop-j.invariant.0 c.symbol-of.ensures,
-      filled_more (trial_mark c.args.threshold) es c.loop-j.marks j c.mark-of.result here (omega (arith, c.requires.marks)) c.loop-j.invariant.1 c.mark-of.ensures,
+      filled_more trial_symbol es c.loop-j.word j c.symbol_of.result here (omega (arith, c.requires.word)) c.loop-j.invariant.0 c.symbol_of.ensures,
+      filled_more (trial_mark c.args.threshold) es c.loop-j.marks j c.mark_of.result here (omega (arith, c.requires.marks)) c.loop-j.invariant.1 c.mark_of.ensures,
     )
 
 pub returns : goal.returns

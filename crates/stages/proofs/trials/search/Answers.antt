@@ -7,7 +7,7 @@ pub trials-preserved : goal.trials-preserved
 trials-preserved g c =
     let m = g.C.Code.model c.args.code.now in (
       omega arith,
-      λ u chosen. below_more (λ (t : ℕ). 1 ≤ t → m.distance ≤ trial_harm t c.args.estimates.now (m.codeword u)) c.trials.threshold (c.trials.invariant.1 u chosen) (λ _. c.in-default.ensures u chosen),
+      λ u chosen. below_more (λ (t : ℕ). 1 ≤ t → m.distance ≤ trial_harm t c.args.estimates.now (m.codeword u)) c.trials.threshold (c.trials.invariant.1 u chosen) (λ _. c.in_default.ensures u chosen),
     )
 
 pub returns-then-threshold-last : goal.returns-then-threshold-last

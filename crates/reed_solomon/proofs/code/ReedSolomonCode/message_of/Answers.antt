@@ -1,4 +1,4 @@
-use Rattle.std.proofs.Common.{◌≡◌, ℕ, ◌-◌, ◌<◌, List, length, get_or, take, Ok, Err, sym, refl, ap, ◌∙◌, subst, arith}
+use Rattle.std.proofs.Common.{◌≡◌, ℕ, ◌-◌, ◌<◌, List, length, get_or, take, Ok, Err, sym, refl, ap, ◌∙◌, subst, arith, is_err}
 use Rattle.std.proofs.ByRecursion.{All-take}
 use Rattle.std.proofs.lemmas.List.{length-take-le}
 use Rattle.words.proofs.Rises.{raised}
@@ -15,12 +15,12 @@ pub recognize-requires : goal.recognize-requires
 recognize-requires g c =
     let self = c.args.self.now in
     let f : FieldModel = g.F.Field.model self.field in
-    let s = c.in-ok-check.ensures in
+    let s = c.in_ok-check.ensures.sound in
     let laws : FieldLaws f = g.met.F.Field.lawful self.field s.0 in
     let k = self.message_len in
     let word = c.args.word.now in
     let model = reed_solomon f self.len k in
-    let none = message_of_passes model c.elements.result c.elements.ensures c.args.message.now word c.in-ok-check-message-of.ensures in
+    let none = message_of_passes model c.elements.result c.elements.ensures c.args.message.now word c.in_ok-check_message_of.ensures in
     let fit = word_fits model c.args.message.now word none in
     let long : length (take (k - 0) word) ≡ k = ap (λ m. length (take m word)) (omega arith) ∙ length-take-le k word (omega (arith, fit.0.0, s.1.2)) in
     (s.0, (((omega (arith, s.1.0, fit.0.0), omega (arith, s.1.1, long), omega (arith, s.1.2, long, fit.0.0)), All-take (λ x. x < size f) (k - 0) word fit.0.1), omega (arith, s.1.0, fit.0.0, size_most f laws)))
@@ -30,53 +30,56 @@ same_code : (f : FieldModel) (n k m j : ℕ) (u v : List ℕ) → m ≡ n → j 
 same_code f n k m j u v em ej eu =
     ap (λ (a : ℕ). (reed_solomon f a j).codeword u) em ∙ ap (λ (a : ℕ). (reed_solomon f n a).codeword u) ej ∙ ap (reed_solomon f n k).codeword eu
 
-pub returns-in-err-recognize : goal.returns-in-err-recognize
-returns-in-err-recognize g c =
+pub returns-in_err-recognize : goal.returns-in_err-recognize
+returns-in_err-recognize g c =
     let self = c.args.self.now in
     let f : FieldModel = g.F.Field.model self.field in
-    let s = c.in-ok-check.ensures in
+    let s = c.in_ok-check.ensures.sound in
     let laws : FieldLaws f = g.met.F.Field.lawful self.field s.0 in
     let n = self.len in
     let k = self.message_len in
     let word = c.args.word.now in
     let message = c.args.message.now in
     let model = reed_solomon f n k in
-    let none = message_of_passes model c.elements.result c.elements.ensures message word c.in-ok-check-message-of.ensures in
+    let none = message_of_passes model c.elements.result c.elements.ensures message word c.in_ok-check_message_of.ensures in
     let fit = word_fits model message word none in
     let front : take (k - 0) word ≡ take k word = ap (λ (m : ℕ). take m word) (omega arith) in
     let long : length (take k word) ≡ k = length-take-le k word (omega (arith, fit.0.0, s.1.2)) in
     let far : (u : List ℕ) → Symbols f.width k u → (reed_solomon f n k).codeword u ≡ word → ⊥ = λ u su e.
-    c.in-err-recognize.ensures.1 (same_code f n k (length word) (length (take (k - 0) word)) (take (k - 0) word) (take k word) fit.0.0 (ap length front ∙ long) front ∙ begun f laws n k s.1 word u su e) in
+    c.in_err-recognize.ensures.1 (same_code f n k (length word) (length (take (k - 0) word)) (take (k - 0) word) (take k word) fit.0.0 (ap length front ∙ long) front ∙ begun f laws n k s.1 word u su e) in
     record {
-      sound = λ _. rw (raised _ c.from-residual-in-err-recognize.ensures.1, c.in-err-recognize.ensures.0) (unrecovered model word message none far);
+      sound = λ _. rw (raised _ c.from_residual-in_err-recognize.ensures.1, c.in_err-recognize.ensures.0) (unrecovered model word message none far);
       unsound = λ no. absurd (no s);
+      refused = λ no. absurd (no s);
     }
 
 pub returns : goal.returns
 returns g c =
     let self = c.args.self.now in
     let f : FieldModel = g.F.Field.model self.field in
-    let s = c.in-ok-check.ensures in
+    let s = c.in_ok-check.ensures.sound in
     let laws : FieldLaws f = g.met.F.Field.lawful self.field s.0 in
     let n = self.len in
     let k = self.message_len in
     let word = c.args.word.now in
     let message = c.args.message.now in
     let model = reed_solomon f n k in
-    let none = message_of_passes model c.elements.result c.elements.ensures message word c.in-ok-check-message-of.ensures in
+    let none = message_of_passes model c.elements.result c.elements.ensures message word c.in_ok-check_message_of.ensures in
     let fit = word_fits model message word none in
     let front : take (k - 0) word ≡ take k word = ap (λ (m : ℕ). take m word) (omega arith) in
     let long : length (take k word) ≡ k = length-take-le k word (omega (arith, fit.0.0, s.1.2)) in
-    let is : (reed_solomon f n k).codeword (take k word) ≡ word = sym (same_code f n k (length word) (length (take (k - 0) word)) (take (k - 0) word) (take k word) fit.0.0 (ap length front ∙ long) front) ∙ c.in-ok-recognize.ensures in
+    let is : (reed_solomon f n k).codeword (take k word) ≡ word = sym (same_code f n k (length word) (length (take (k - 0) word)) (take (k - 0) word) (take k word) fit.0.0 (ap length front ∙ long) front) ∙ c.in_ok-recognize.ensures in
     record {
-      sound = λ _. subst (λ (u : List ℕ). Recovered model word message u (Ok tt)) (sym (c.copy-from-slice.ensures.after ∙ front)) (recovered model word message (take k word) none (long, All-take (λ x. x < size f) k word fit.0.1) is);
+      sound = λ _. subst (λ (u : List ℕ). Recovered model word message u (Ok tt)) (sym (c.copy_from_slice.ensures.after ∙ front)) (recovered model word message (take k word) none (long, All-take (λ x. x < size f) k word fit.0.1) is);
       unsound = λ no. absurd (no s);
+      refused = λ no. absurd (no s);
     }
 
-pub returns-in-err-check : goal.returns-in-err-check
-returns-in-err-check g c =
-    let refused = c.in-err-check.ensures in
+pub returns-in_err-check : goal.returns-in_err-check
+returns-in_err-check g c =
+    let refused = c.in_err-check.ensures in
     record {
-      sound = λ s. absurd (refused.0 s);
-      unsound = λ _. (unsound_raised _ c.from-residual.result c.from-residual.ensures.1 refused.1, refl);
+      sound = λ s. absurd (refused.sound s);
+      unsound = λ _. (ap is_err (raised _ c.from_residual.ensures.1), refl);
+      refused = λ _. unsound_raised _ c.from_residual.result c.from_residual.ensures.1 refused.refused;
     }
