@@ -11,6 +11,12 @@ import sys
 TOKEN = re.compile(r"[^\s()\[\]{}.,;:\"`«»|]+")
 SIGNATURE = re.compile(r"^\s*(?:(?:abbrev|unfoldable|pub|data|record|infix\w*)\s+)*([^\s():{}.,;\"]+)((?:\s+[({][^)}]*[)}])*)\s*:(?!=)\s*(.*)$")
 MADE = re.compile(r"^\s*(goal|given)\.")
+# names that stand after `as`, and parameters of modules and definitions
+BOUND = [
+    "the-code", "the-medium", "the-memory", "the-recipe", "the-pile", "the-repetition", "the-polynomial", "the-extension",
+    "harm-of", "score-of", "size-of", "binary-due", "sized-due", "open-widths", "zero-there",
+    "Sound-chain", "Medium-sound", "Medium-refuses", "Code-sound", "Code-refuses", "Worn-cell",
+]
 WORDS = {"getD": "get_or", "sumBy": "sum_by", "countBy": "count_by"}
 
 
@@ -71,6 +77,8 @@ def turned(text, mark, names):
 def main():
     texts = {f: open(f).read() for f in antt_files()}
     own, goals = collections.OrderedDict(), set()
+    for name in BOUND:
+        own[name] = respelt(name)
     for text in texts.values():
         for name in declared(text):
             own[name] = respelt(name)

@@ -43,18 +43,18 @@ row_fits n stages width labels cells e =
 
 pub reading_fits : (n stages : ℕ) (width : ℕ → ℕ) (i : ℕ) (labels cells marks : List ℕ) → estimate_refusal n stages width i labels cells marks ≡ None → ReadingFits n stages width i labels cells marks
 reading_fits n stages width i labels cells marks e =
-    let sized-due = refusal Chain (sized (i - 1) labels ∷ sized n cells ∷ sized n marks ∷ []) in
-    let binary-due = refusal Chain (binary n cells ∷ binary n marks ∷ []) in
-    let e₁ = right (stage_refusal stages i) (either sized-due (either (large_label width 0 labels) binary-due)) e in
-    let e₂ = right sized-due (either (large_label width 0 labels) binary-due) e₁ in
+    let sized_due = refusal Chain (sized (i - 1) labels ∷ sized n cells ∷ sized n marks ∷ []) in
+    let binary_due = refusal Chain (binary n cells ∷ binary n marks ∷ []) in
+    let e₁ = right (stage_refusal stages i) (either sized_due (either (large_label width 0 labels) binary_due)) e in
+    let e₂ = right sized_due (either (large_label width 0 labels) binary_due) e₁ in
     let stage = stage_fits stages i (left (stage_refusal stages i) _ e) in
-    let sizes = fits_from_none Chain (sized (i - 1) labels ∷ sized n cells ∷ sized n marks ∷ []) (left sized-due _ e₁) in
-    let values = fits_from_none Chain (binary n cells ∷ binary n marks ∷ []) (right (large_label width 0 labels) binary-due e₂) in
+    let sizes = fits_from_none Chain (sized (i - 1) labels ∷ sized n cells ∷ sized n marks ∷ []) (left sized_due _ e₁) in
+    let values = fits_from_none Chain (binary n cells ∷ binary n marks ∷ []) (right (large_label width 0 labels) binary_due e₂) in
     record {
       low = stage.0;
       high = stage.1;
       many = sizes.0.0;
-      each = labels_fit width 0 labels (left (large_label width 0 labels) binary-due e₂);
+      each = labels_fit width 0 labels (left (large_label width 0 labels) binary_due e₂);
       cells_fit = values.0;
       marks_fit = values.1.0;
     }

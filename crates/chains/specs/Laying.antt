@@ -122,7 +122,7 @@ word_laid n column ss bs good bits reach = ext_get_or 0 _ _ (long ∙ sym fits.0
         let cell = laid_at n p at column ss bs (replicate n 0) (reach p at) bits (zeros_cells n) in
         let small = All-get_or (λ b. b < 2) (laid (map column ss) bs (replicate n 0)) p 0 (omega (arith, fits.0)) fits.1 in
         let here : slice_index_or (counted 0 n) p 0 ≡ p = get_or_counted 0 n p at ∙ omega arith in
-        let zero-there = get_or-replicate {A = ℕ} n p 0 0 at in
+        let zero_there = get_or-replicate {A = ℕ} n p 0 0 at in
         get_or-map (λ q. held q ss bs % 2) (counted 0 n) p 0 0 (omega (arith, length_counted 0 n))
         ∙ ap (λ q. held q ss bs % 2) here
-        ∙ omega (arith, cell, small, zero-there)
+        ∙ omega (arith, cell, small, zero_there)

@@ -71,8 +71,8 @@ module _ (r : ℕ) (range : MullerRange r) where
     pub room : length decided + at_stage ws i ≤ 2 ^ r
     room =
         let here : suc (i - 1) ≡ i = omega arith in
-        let open-widths : drop (i - 1) ws ≡ at_stage ws i ∷ drop i ws = widths_more ws (i - 1) (omega (arith, sizes.stages)) ∙ ap (λ k. at_stage ws k ∷ drop k ws) here in
-        omega (arith, length_decided, total_split (i - 1) ws, ap total open-widths, sizes.bits)
+        let open_widths : drop (i - 1) ws ≡ at_stage ws i ∷ drop i ws = widths_more ws (i - 1) (omega (arith, sizes.stages)) ∙ ap (λ k. at_stage ws k ∷ drop k ws) here in
+        omega (arith, length_decided, total_split (i - 1) ws, ap total open_widths, sizes.bits)
 
     -- the harm against a row that begins with the labels, by what is left of the reading
     left_is : (rest : List ℕ) → harm y m (muller_word r (labels ++ rest)) ≡ left_harm (laid open_columns (row_bits (drop (i - 1) ws) rest) begun) m
@@ -121,8 +121,8 @@ module _ (r : ℕ) (range : MullerRange r) where
       label_is : at_stage (labels ++ later) i ≡ spelled (take (at_stage ws i) found)
       label_is =
           let here : suc (i - 1) ≡ i = omega arith in
-          let open-widths : drop (i - 1) ws ≡ at_stage ws i ∷ drop i ws = widths_more ws (i - 1) (omega (arith, sizes.stages)) ∙ ap (λ k. at_stage ws k ∷ drop k ws) here in
-          ap (λ vs. slice_index (labels ++ cut vs found) (i - 1)) open-widths ∙ get_or_at labels (spelled (take (at_stage ws i) found)) _ 0 (i - 1) many
+          let open_widths : drop (i - 1) ws ≡ at_stage ws i ∷ drop i ws = widths_more ws (i - 1) (omega (arith, sizes.stages)) ∙ ap (λ k. at_stage ws k ∷ drop k ws) here in
+          ap (λ vs. slice_index (labels ++ cut vs found) (i - 1)) open_widths ∙ get_or_at labels (spelled (take (at_stage ws i) found)) _ 0 (i - 1) many
 
       pub muller_some : final_harm < 2 ^ (i - 1) → Estimates (muller_chain r) i labels y m (Some (record { label = spelled (take (at_stage ws i) found); harm = final_harm }))
       muller_some near = (labels ++ later, (found_row, take_at labels later (i - 1) many), sym label_is, sym final_is, near)

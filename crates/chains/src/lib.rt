@@ -1,4 +1,6 @@
 // Chains: inner codes that are partitioned stage by stage, and the estimate of a stage's label from a reading.
+#![tactic(auto)]
+
 pub mod chain;
 mod checks;
 pub mod derived;

@@ -1,4 +1,6 @@
 // Compares each chain's estimate with a plain search over all rows, on readings that are made at random.
+#![tactic(auto)]
+
 use chains::chain::{Chain, Estimate};
 use chains::even::Even;
 use chains::reed_muller::ReedMuller;

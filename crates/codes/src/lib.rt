@@ -1,4 +1,6 @@
 // Codes: what every block code offers, and the simple kinds.
+#![tactic(auto)]
+
 pub mod checks;
 pub mod code;
 pub mod either;

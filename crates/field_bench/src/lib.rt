@@ -1,4 +1,6 @@
 // What the benchmark in bench/fields calls from C: passes of products over a buffer, in both fields of width 8.
+#![tactic(auto)]
+
 use fields::field::Field;
 use fields::polynomial::Polynomial;
 use fields::worked::recipe_extension;

@@ -1,4 +1,6 @@
 // Fields of 2 to 256 elements in which x + x = 0: the polynomial fields, and extensions of small fields.
+#![tactic(auto)]
+
 mod below;
 pub mod extension;
 pub mod field;

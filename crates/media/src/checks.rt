@@ -1,7 +1,7 @@
 // The checks that media share: their numbers, the page and the cell.
 ghost use Rattle.std.specs.Prelude.{◌≡◌, ◌&&◌, [], ◌∷◌, if◌then◌else◌, Some, None, nat_le, nat_lt};
 ghost use Rattle.words.specs.declared.fault.Kind.TheVariants.{PageOutOfRange, CellOutOfRange};
-ghost use Rattle.words.specs.declared.fault.Layer.TheVariants.{Medium as the-medium};
+ghost use Rattle.words.specs.declared.fault.Layer.TheVariants.{Medium as the_medium};
 ghost use Rattle.words.specs.Buffers.{checked, refusal, values_below, written_to};
 ghost use Rattle.words.specs.Faults.{fault};
 
@@ -22,7 +22,7 @@ pub(crate) fn in_range(pages: usize, breadth: usize) -> bool
 
 /// Refuses a page that there is not.
 pub fn check_page(page: usize, pages: usize) -> Result<(), Fault>
-    ensures { result ≡ checked (if nat_lt page pages then None else Some (fault PageOutOfRange the-medium page)) }
+    ensures { result ≡ checked (if nat_lt page pages then None else Some (fault PageOutOfRange the_medium page)) }
 {
     if page < pages {
         Ok(())
@@ -32,7 +32,7 @@ pub fn check_page(page: usize, pages: usize) -> Result<(), Fault>
 }
 
 pub(crate) fn check_cell(cell: usize, breadth: usize, state: u8) -> Result<(), Fault>
-    ensures { result ≡ checked (if nat_lt cell breadth && nat_le state 2 then None else Some (fault CellOutOfRange the-medium cell)) }
+    ensures { result ≡ checked (if nat_lt cell breadth && nat_le state 2 then None else Some (fault CellOutOfRange the_medium cell)) }
 {
     if cell < breadth && state <= 2 {
         Ok(())
@@ -43,7 +43,7 @@ pub(crate) fn check_cell(cell: usize, breadth: usize, state: u8) -> Result<(), F
 
 // The checks of fetch: both buffers are only written to.
 pub(crate) fn check_fetch(cells: &[u8], marks: &[u8], breadth: usize) -> Result<(), Fault>
-    ensures { result ≡ checked (refusal the-medium (written_to breadth cells.now ∷ written_to breadth marks.now ∷ [])) }
+    ensures { result ≡ checked (refusal the_medium (written_to breadth cells.now ∷ written_to breadth marks.now ∷ [])) }
 {
     let buffers = [
         Buffer::new(cells, breadth, 256),
@@ -54,7 +54,7 @@ pub(crate) fn check_fetch(cells: &[u8], marks: &[u8], breadth: usize) -> Result<
 
 // The checks of put: cells of 0 and 1.
 pub(crate) fn check_put(cells: &[u8], breadth: usize) -> Result<(), Fault>
-    ensures { result ≡ checked (refusal the-medium (values_below 2 breadth cells.now ∷ [])) }
+    ensures { result ≡ checked (refusal the_medium (values_below 2 breadth cells.now ∷ [])) }
 {
     let buffers = [Buffer::new(cells, breadth, 2)];
     check_buffers(Layer::Medium, &buffers)

@@ -1,7 +1,7 @@
 // The grid: one byte a cell.
 ghost use Rattle.std.specs.Prelude.{◌≡◌, ◌+◌, ◌*◌, ◌<◌, true, map, length, is_err, IfErr, MatchResult, slice_set};
 ghost use Rattle.words.specs.declared.fault.Kind.TheVariants.{UnfitMedium};
-ghost use Rattle.words.specs.declared.fault.Layer.TheVariants.{Medium as the-medium};
+ghost use Rattle.words.specs.declared.fault.Layer.TheVariants.{Medium as the_medium};
 ghost use Rattle.words.specs.Faults.{fault};
 ghost use Rattle.media_laws.specs.Grid.{GridFits, bytes_put, page_bytes, put_byte, put_bytes, state_of};
 ghost use Rattle.media_laws.specs.Model.{value_of, mark_of, Unchanged};
@@ -84,7 +84,7 @@ impl Medium for Grid<'_> {
 
     fn check(&self) -> Result<(), Fault>
         ensures sound { MatchResult result (λ _. GridFits self.now.bytes.now self.now.pages self.now.breadth) (λ _. GridFits self.now.bytes.now self.now.pages self.now.breadth → ⊥) }
-        ensures fault { IfErr result (λ f. f ≡ fault UnfitMedium the-medium (length self.now.bytes.now)) }
+        ensures fault { IfErr result (λ f. f ≡ fault UnfitMedium the_medium (length self.now.bytes.now)) }
         ensures refused { IfErr result (GridRefuses self.now) }
     {
         let len = self.bytes.len();

@@ -1,4 +1,6 @@
 // Media: where pages are kept, cell by cell.
+#![tactic(auto)]
+
 pub mod checks;
 pub mod grid;
 pub mod medium;

@@ -2,7 +2,7 @@
 ghost use Rattle.std.specs.Prelude.{◌≡◌, ℕ, ◌*◌, ◌<◌, ◌≤◌, length, count_by, MatchResult, nat_eq, slice_index};
 ghost use Rattle.std.specs.List.{AllByRecursion as All};
 ghost use Rattle.words.specs.declared.fault.Kind.TheVariants.{SpareBitSet};
-ghost use Rattle.words.specs.declared.fault.Layer.TheVariants.{Memory as the-memory};
+ghost use Rattle.words.specs.declared.fault.Layer.TheVariants.{Memory as the_memory};
 ghost use Rattle.words.specs.Faults.{fault};
 ghost use Rattle.memory_laws.specs.Payload.{bits_of_byte, byte_at, bytes_of, carrying, page_bytes, SpareClear};
 
@@ -79,7 +79,7 @@ pub(crate) fn gather(message: &[u8], payload: &mut [u8])
 /// Refuses a message with a spare bit that is 1, at the first such bit.
 pub(crate) fn check_spare(message: &[u8]) -> Result<(), Fault>
     requires { All (λ b. b < 2) message.now }
-    ensures { MatchResult result (λ _. SpareClear (length message.now) message.now) (λ f. (bit : ℕ) × (f ≡ fault SpareBitSet the-memory bit) × (8 * page_bytes (length message.now) ≤ bit) × (slice_index message.now bit ≡ 1) × ((i : ℕ) → 8 * page_bytes (length message.now) ≤ i → i < bit → slice_index message.now i ≡ 0)) }
+    ensures { MatchResult result (λ _. SpareClear (length message.now) message.now) (λ f. (bit : ℕ) × (f ≡ fault SpareBitSet the_memory bit) × (8 * page_bytes (length message.now) ≤ bit) × (slice_index message.now bit ≡ 1) × ((i : ℕ) → 8 * page_bytes (length message.now) ≤ i → i < bit → slice_index message.now i ≡ 0)) }
 {
     let used = 8 * (message.len() / 8);
     for bit in used..message.len() {

@@ -1,4 +1,6 @@
 // Memories: a code joined to a medium, page by page.
+#![tactic(auto)]
+
 mod bits;
 mod checks;
 mod joins;

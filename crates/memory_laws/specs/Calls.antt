@@ -21,10 +21,10 @@ pub record Joins (m : MediumModel) (c : CodeModel) : Type 0 where
 
 -- why a memory's call looks at no page: an unsound medium's own refusal, then an unsound code's own, then 19 where the two do not join
 abbrev pub Unjoined : Type 0 → (Fault → Type 0) → Type 0 → (Fault → Type 0) → Type 0 → Fault → Type 0
-Unjoined Medium-sound Medium-refuses Code-sound Code-refuses Joined f =
-    ((Medium-sound → ⊥) × Medium-refuses f)
-    ⊎ ((Medium-sound × (Code-sound → ⊥) × Code-refuses f)
-    ⊎ (Medium-sound × Code-sound × (Joined → ⊥) × (f ≡ fault UnfitMemory Memory 0)))
+Unjoined MediumSound MediumRefuses CodeSound CodeRefuses Joined f =
+    ((MediumSound → ⊥) × MediumRefuses f)
+    ⊎ ((MediumSound × (CodeSound → ⊥) × CodeRefuses f)
+    ⊎ (MediumSound × CodeSound × (Joined → ⊥) × (f ≡ fault UnfitMemory Memory 0)))
 
 -- the answer of a call with the page added to its fault
 abbrev pub paged : {X : Type 0} → Result X Fault → ℕ → Result X Fault

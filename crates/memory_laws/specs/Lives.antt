@@ -47,9 +47,9 @@ module _ (c : CodeModel) {m : MediumModel} (p : ℕ) where
   WornSince i (goes_on life (wears q j s r w)) = MatchBool (q == p && (j == i && is_ok r)) (Unit {0}) (WornSince i life)
 
 -- what holds of a page with a last accepted write, at the end of a life
-pub record Standing (c : CodeModel) (m : MediumModel) (p : ℕ) (payload : List ℕ) (Worn-cell : ℕ → Type 0) : Type 0 where
+pub record Standing (c : CodeModel) (m : MediumModel) (p : ℕ) (payload : List ℕ) (WornCell : ℕ → Type 0) : Type 0 where
   -- its readable unworn cells match the recording
-  pub matches : (i : ℕ) → i < m.breadth → (Worn-cell i → ⊥) → (slice_index_or (m.page p) i 2 ≢ 2) → slice_index_or (m.page p) i 2 ≡ slice_index (recording c payload) i
+  pub matches : (i : ℕ) → i < m.breadth → (WornCell i → ⊥) → (slice_index_or (m.page p) i 2 ≢ 2) → slice_index_or (m.page p) i 2 ≡ slice_index (recording c payload) i
   -- while the harm is below the reach, a read gives the payload and that harm
   pub reads_back : page_harm m p (recording c payload) < c.distance → (m' : MediumModel) (buffer buffer' : List ℕ) (r : Result ℕ Fault) → length buffer ≡ page_bytes c.message_len → All (λ b. b < 256) buffer → Recalled m m' c p buffer buffer' r → (r ≡ Ok (page_harm m p (recording c payload))) × (buffer' ≡ payload)
   -- and a patrol is accepted

@@ -16,17 +16,21 @@ module _ {A : Type 0} (sound : A → Type 0) (refuses : A → Fault → Type 0) 
   FirstUnsound [] f = ⊥
   FirstUnsound (a ∷ codes) f = ((sound a → ⊥) × refuses a f) ⊎ (sound a × FirstUnsound codes f)
 
+-- a check answers exactly where all is sound, and else gives the refusal
+abbrev pub SoundOrRefused : Type 0 → (Fault → Type 0) → Result (Unit {0}) Fault → Type 0
+SoundOrRefused Sound Refuses r = MatchResult r (λ _. Sound) (λ f. (Sound → ⊥) × Refuses f)
+
 -- the refusal of codes that do not fit the chain
 abbrev pub RefusesFit : ChainModel → List CodeModel → Fault → Type 0
 RefusesFit h cs f = (place : ℕ) × (unfit h cs ≡ Some place) × (f ≡ fault UnfitStages Pile place)
 
-module _ (Sound-chain : Type 0) (h : ChainModel) {A : Type 0} (model : A → CodeModel) (sound : A → Type 0) where
+module _ (SoundChain : Type 0) (h : ChainModel) {A : Type 0} (model : A → CodeModel) (sound : A → Type 0) where
   abbrev pub SoundPile : List A → Type 0
-  SoundPile codes = Sound-chain × All sound codes × Fits h (map model codes)
+  SoundPile codes = SoundChain × All sound codes × Fits h (map model codes)
 
   -- the refusal of a chain that is not sound comes first, then that of the first code that is not, then 15
   abbrev pub RefusesPile : (A → Fault → Type 0) → List A → Fault → Type 0
   RefusesPile refuses codes f =
-      ((Sound-chain → ⊥) × (f ≡ outside))
-      ⊎ (Sound-chain × FirstUnsound sound refuses codes f)
-      ⊎ (Sound-chain × All sound codes × RefusesFit h (map model codes) f)
+      ((SoundChain → ⊥) × (f ≡ outside))
+      ⊎ (SoundChain × FirstUnsound sound refuses codes f)
+      ⊎ (SoundChain × All sound codes × RefusesFit h (map model codes) f)

@@ -2,12 +2,11 @@
 ghost use Rattle.std.specs.Prelude.{◌≡◌, ◌≤◌, map, length, Some, MatchResult};
 ghost use Rattle.std.specs.List.{AllByRecursion as All};
 ghost use Rattle.words.specs.declared.fault.Kind.TheVariants.{UnfitStages};
-ghost use Rattle.words.specs.declared.fault.Layer.TheVariants.{Pile as the-pile};
+ghost use Rattle.words.specs.declared.fault.Layer.TheVariants.{Pile as the_pile};
 ghost use Rattle.words.specs.Faults.{fault};
-ghost use Rattle.codes.specs.Promises.{Sound-or-refused};
 ghost use Rattle.pile_laws.specs.Build.{columns as columns_of};
 ghost use Rattle.pile_laws.specs.Fit.{Fits, fits_stage, unfit, unfit_from};
-ghost use Rattle.piles.specs.Sound.{FirstUnsound, RefusesFit, SoundPile, RefusesPile};
+ghost use Rattle.piles.specs.Sound.{FirstUnsound, RefusesFit, SoundOrRefused, SoundPile, RefusesPile};
 
 use chains::chain::Chain;
 use codes::code::Code;
@@ -68,7 +67,7 @@ pub(crate) fn count_columns<A: Code>(codes: &[A]) -> usize
 const MOST_CELLS: usize = 4096;
 
 fn unfit_at(place: usize) -> Fault
-    ensures { result ≡ fault UnfitStages the-pile place }
+    ensures { result ≡ fault UnfitStages the_pile place }
 {
     Fault::new(Kind::UnfitStages, Layer::Pile, place)
 }
@@ -90,7 +89,7 @@ fn check_fit<H: Chain, A: Code>(chain: &H, codes: &[A]) -> Result<(), Fault>
 
 /// Refuses a chain or a code that is not sound, and codes that do not fit the chain.
 pub(crate) fn check_parts<H: Chain, A: Code>(chain: &H, codes: &[A]) -> Result<(), Fault>
-    ensures { Sound-or-refused (SoundPile (H.Chain.sound chain.now) (H.Chain.model chain.now) A.Code.model A.Code.sound codes.now) (RefusesPile (H.Chain.sound chain.now) (H.Chain.model chain.now) A.Code.model A.Code.sound A.Code.refuses codes.now) result }
+    ensures { SoundOrRefused (SoundPile (H.Chain.sound chain.now) (H.Chain.model chain.now) A.Code.model A.Code.sound codes.now) (RefusesPile (H.Chain.sound chain.now) (H.Chain.model chain.now) A.Code.model A.Code.sound A.Code.refuses codes.now) result }
 {
     chain.check()?;
     check_codes(codes)?;

@@ -6,12 +6,12 @@ ghost use Rattle.words.specs.Buffers.{refusal};
 ghost use Rattle.words.specs.Faults.{fault};
 ghost use Rattle.chains.specs.Model.{Cells};
 ghost use Rattle.codes.specs.Model.{Lawful, Message, OnlyOneNear};
-ghost use Rattle.codes.specs.Promises.{Corrected, Encoded, Recovered, Refused, Sound-or-refused};
+ghost use Rattle.codes.specs.Promises.{Corrected, Encoded, Recovered, Refused};
 ghost use Rattle.codes.proofs.Working.{correct_buffers, message_of_buffers};
 ghost use Rattle.pile_laws.specs.Build.{columns as columns_of, reach as reach_of};
 ghost use Rattle.pile_laws.specs.Pile.{pile};
 ghost use Rattle.piles.specs.Decoding.{Recognizes};
-ghost use Rattle.piles.specs.Sound.{SoundPile, RefusesPile};
+ghost use Rattle.piles.specs.Sound.{SoundOrRefused, SoundPile, RefusesPile};
 
 use crate::choices::find;
 use crate::columns::lay_columns;
@@ -246,7 +246,7 @@ impl<H: Chain, A: Code> Pile<H, A> {
     /// Refuses parts that are not sound or do not fit each other. A pile that passes is a lawful code: the codewords of different messages
     /// differ in at least as many cells as the reach, and a message is no longer than its codeword.
     pub fn check(&self) -> Result<(), Fault>
-        ensures sound { Sound-or-refused (SoundPile (H.Chain.sound self.now.chain) (H.Chain.model self.now.chain) A.Code.model A.Code.sound (take self.now.used self.now.stages)) (RefusesPile (H.Chain.sound self.now.chain) (H.Chain.model self.now.chain) A.Code.model A.Code.sound A.Code.refuses (take self.now.used self.now.stages)) result }
+        ensures sound { SoundOrRefused (SoundPile (H.Chain.sound self.now.chain) (H.Chain.model self.now.chain) A.Code.model A.Code.sound (take self.now.used self.now.stages)) (RefusesPile (H.Chain.sound self.now.chain) (H.Chain.model self.now.chain) A.Code.model A.Code.sound A.Code.refuses (take self.now.used self.now.stages)) result }
         ensures lawful { OnOk result (Lawful (pile (H.Chain.model self.now.chain) (map A.Code.model (take self.now.used self.now.stages)))) }
     {
         check_parts(&self.chain, self.codes())

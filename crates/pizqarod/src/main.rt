@@ -1,4 +1,6 @@
 // The program: what a recipe is, and which of many recipes serves best.
+#![tactic(auto)]
+
 mod describe;
 mod hex;
 mod survey;

@@ -1,2 +1,4 @@
 // The pile of a recipe as a code.
+#![tactic(auto)]
+
 pub mod code;

@@ -3,7 +3,7 @@ ghost use Rattle.std.specs.Prelude.{◌≡◌, ◌<◌, ◌≤◌, length, take}
 ghost use Rattle.std.specs.List.{AllByRecursion as All};
 ghost use Rattle.fields.specs.Recipe.{RecipeWidth};
 ghost use Rattle.codes.specs.Making.{InRange};
-ghost use Rattle.recipes.specs.declared.kinds.CodeKind.TheVariants.{Open as TheOpen, Repetition as the-repetition, ReedSolomon as the-polynomial, ExtendedReedSolomon as the-extension};
+ghost use Rattle.recipes.specs.declared.kinds.CodeKind.TheVariants.{Open as TheOpen, Repetition as the_repetition, ReedSolomon as the_polynomial, ExtendedReedSolomon as the_extension};
 ghost use Rattle.recipe_pile_laws.specs.Numbers.{Makeable};
 ghost use Rattle.recipe_piles.specs.Made.{IsCode, Lengths, Made, StageHas, StagesHave};
 
@@ -27,14 +27,14 @@ fn open_code(width: usize, len: usize) -> Result<StageCode, Fault>
 
 fn repetition_code(width: usize, len: usize) -> Result<StageCode, Fault>
     requires { InRange width len }
-    ensures { Made (IsCode the-repetition width len 1) result }
+    ensures { Made (IsCode the_repetition width len 1) result }
 {
     Ok(Either::Left(Either::Right(Repetition::new(width, len)?)))
 }
 
 fn polynomial_code(width: u8, len: usize, message_len: usize) -> Result<StageCode, Fault>
     requires { (1 ≤ width) × ((width ≤ 8) × (Lengths width len message_len)) }
-    ensures { Made (IsCode the-polynomial width len message_len) result }
+    ensures { Made (IsCode the_polynomial width len message_len) result }
 {
     let field = Polynomial::new(width)?;
     let code = ReedSolomon::new(field, len, message_len)?;
@@ -43,7 +43,7 @@ fn polynomial_code(width: u8, len: usize, message_len: usize) -> Result<StageCod
 
 fn extension_code(width: u8, len: usize, message_len: usize) -> Result<StageCode, Fault>
     requires { (RecipeWidth width) × (Lengths width len message_len) }
-    ensures { Made (IsCode the-extension width len message_len) result }
+    ensures { Made (IsCode the_extension width len message_len) result }
 {
     let field = recipe_extension(width)?;
     let code = ReedSolomon::new(field, len, message_len)?;

@@ -1,4 +1,6 @@
 // The parts of the pile that a recipe describes: its chain and the codes of its stages.
+#![tactic(auto)]
+
 mod chains_made;
 mod codes_made;
 pub mod either;

@@ -1,7 +1,7 @@
 // The fields of a recipe's bytes, each checked for its presence before its own rule.
 ghost use Rattle.std.specs.Prelude.{◌≡◌, ◌+◌, ◌*◌, ◌<◌, ◌≤◌, true, length, Some, None, MatchResult, slice_index};
 ghost use Rattle.words.specs.declared.fault.Kind.TheVariants.{RecipeEnds, BytesLeftOver};
-ghost use Rattle.words.specs.declared.fault.Layer.TheVariants.{Recipe as the-recipe};
+ghost use Rattle.words.specs.declared.fault.Layer.TheVariants.{Recipe as the_recipe};
 ghost use Rattle.words.specs.Faults.{fault};
 ghost use Rattle.recipes.specs.Chains.{Known, chain_named, cells_of, stages_of, width_at};
 ghost use Rattle.recipes.specs.Codes.{fits_kind};
@@ -15,14 +15,14 @@ use words::fault::{Fault, Kind, Layer};
 pub const MOST_CELLS: usize = 4096;
 
 fn refused(kind: Kind, place: usize) -> Fault
-    ensures { result ≡ fault kind the-recipe place }
+    ensures { result ≡ fault kind the_recipe place }
 {
     Fault::new(kind, Layer::Recipe, place)
 }
 
 // Refuses bytes that end before the offset `end`.
 fn check_reaches(bytes: &[u8], end: usize) -> Result<(), Fault>
-    ensures { MatchResult result (λ _. end ≤ length bytes.now) (λ f. (length bytes.now < end) × (f ≡ fault RecipeEnds the-recipe (length bytes.now))) }
+    ensures { MatchResult result (λ _. end ≤ length bytes.now) (λ f. (length bytes.now < end) × (f ≡ fault RecipeEnds the_recipe (length bytes.now))) }
 {
     let len = bytes.len();
     if len < end {
@@ -89,7 +89,7 @@ pub(crate) fn read_stage(
 }
 
 pub(crate) fn check_end(bytes: &[u8], end: usize) -> Result<(), Fault>
-    ensures { MatchResult result (λ _. length bytes.now ≤ end) (λ f. (end < length bytes.now) × (f ≡ fault BytesLeftOver the-recipe end)) }
+    ensures { MatchResult result (λ _. length bytes.now ≤ end) (λ f. (end < length bytes.now) × (f ≡ fault BytesLeftOver the_recipe end)) }
 {
     if end < bytes.len() {
         return Err(refused(Kind::BytesLeftOver, end));

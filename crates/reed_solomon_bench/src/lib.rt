@@ -1,4 +1,6 @@
 // What the benchmark in bench/reed_solomon calls from C: the code of N = the word's length over the polynomial field of width 8.
+#![tactic(auto)]
+
 use codes::code::Code;
 use fields::polynomial::Polynomial;
 use reed_solomon::code::ReedSolomon;

@@ -1,4 +1,6 @@
 // Compares the calls of Reed-Solomon codes with a decoder of this program's own, on words that are made at random.
+#![tactic(auto)]
+
 mod arithmetic;
 mod decoder;
 mod trials;

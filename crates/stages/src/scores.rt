@@ -1,7 +1,7 @@
 // The score of a codeword, and whether it is the choice.
 ghost use Rattle.std.specs.Prelude.{◌≡◌, ◌*◌, ◌≤◌, length, nat_lt};
 ghost use Rattle.std.specs.List.{AllByRecursion as All};
-ghost use Rattle.stage_laws.specs.Rule.{score_at, score as score-of, Within};
+ghost use Rattle.stage_laws.specs.Rule.{score_at, score as score_of, Within};
 
 use chains::chain::Estimate;
 
@@ -29,7 +29,7 @@ pub(crate) fn score(inner: u8, estimates: &[Option<Estimate>], word: &[u8]) -> u
     requires short { length estimates.now ≤ 4096 }
     requires word { length word.now ≡ length estimates.now }
     requires within { All (Within inner) estimates.now }
-    ensures { result ≡ score-of inner estimates.now word.now }
+    ensures { result ≡ score_of inner estimates.now word.now }
 {
     let mut total = 0;
     for (j, estimate) in estimates.iter().enumerate() {

@@ -1,7 +1,7 @@
 // Harm: how far a word lies from a codeword.
 ghost use Rattle.std.specs.Prelude.{◌≡◌, ◌≤◌, length};
 ghost use Rattle.words.specs.Buffers.{answered, refusal};
-ghost use Rattle.words.specs.Harm.{harm_at, harm as harm-of, harm_buffers};
+ghost use Rattle.words.specs.Harm.{harm_at, harm as harm_of, harm_buffers};
 
 use crate::buffer::{Buffer, check_buffers};
 use crate::fault::{Fault, Layer};
@@ -29,7 +29,7 @@ fn harm_at(symbol: u8, mark: u8, sent: u8) -> usize
 
 fn total_harm(word: &[u8], marks: &[u8], codeword: &[u8]) -> usize
     requires { (length word.now ≤ 4096) × ((length marks.now ≡ length word.now) × (length codeword.now ≡ length word.now)) }
-    ensures { result ≡ harm-of word.now marks.now codeword.now }
+    ensures { result ≡ harm_of word.now marks.now codeword.now }
 {
     let mut total = 0;
     for (i, symbol) in word.iter().enumerate() {
@@ -41,7 +41,7 @@ fn total_harm(word: &[u8], marks: &[u8], codeword: &[u8]) -> usize
 /// The harm of a word, beside its marks, against a codeword: twice the readable places where they differ plus
 /// the blank places. Refuses for the layer that asks.
 pub fn harm(layer: Layer, word: &[u8], marks: &[u8], codeword: &[u8]) -> Result<usize, Fault>
-    ensures { result ≡ answered (refusal layer (harm_buffers word.now marks.now codeword.now)) (harm-of word.now marks.now codeword.now) }
+    ensures { result ≡ answered (refusal layer (harm_buffers word.now marks.now codeword.now)) (harm_of word.now marks.now codeword.now) }
 {
     let places = word.len().min(MOST_PLACES);
     let buffers = [

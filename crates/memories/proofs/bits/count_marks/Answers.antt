@@ -11,10 +11,10 @@ loop-mark-preserved c =
     elim c.if-mark-eq1.branch [
       | then-mark-eq1 w ↦
           let one : ◌≡◌ {A = ℕ} (cond (eqb m 1) 1 0) 1 = ap (λ t. cond t 1 0) (eq-eqb m 1 w.if-mark-eq1.true) in
-          (omega (arith, w.count_is), omega (arith, w.count_is, more, one))
+          (omega (arith, w.count-is), omega (arith, w.count-is, more, one))
       | else-mark-eq1 w ↦
           let none : ◌≡◌ {A = ℕ} (cond (eqb m 1) 1 0) 0 = ap (λ t. cond t 1 0) (ne_eqb m 1 w.if-mark-eq1.false) in
-          (omega (arith, w.count_is), omega (arith, w.count_is, more, none))
+          (omega (arith, w.count-is), omega (arith, w.count-is, more, none))
     ]
 
 pub returns : goal.returns

@@ -6,8 +6,8 @@ use Rattle.memory_laws.specs.Payload.{byte_at}
 use Rattle.memory_laws.proofs.Gathering.{byte_at_take, bytes_from}
 use Rattle.memories.proofs.bits.gather.Goals as goal
 
-pub gather-byte-requires : goal.gather-byte-requires
-gather-byte-requires c =
+pub gather_byte-requires : goal.gather_byte-requires
+gather_byte-requires c =
     let message = c.args.message.now in
     let i = c.loop-i.i in
     let span : 8 * i + 8 - 8 * i ≡ 8 = omega arith in
@@ -20,8 +20,8 @@ loop-i-preserved c =
     let i = c.loop-i.i in
     let span : 8 * i + 8 - 8 * i ≡ 8 = omega arith in
     let within : i < length c.loop-i.payload = omega arith in
-    placed_more (λ k. byte_at (drop (8 * k) message)) c.loop-i.payload i c.gather-byte.result within c.loop-i.invariant
-    (c.gather-byte.ensures ∙ ap (λ n. byte_at (take n (drop (8 * i) message))) span ∙ byte_at_take (drop (8 * i) message))
+    placed_more (λ k. byte_at (drop (8 * k) message)) c.loop-i.payload i c.gather_byte.result within c.loop-i.invariant
+    (c.gather_byte.ensures ∙ ap (λ n. byte_at (take n (drop (8 * i) message))) span ∙ byte_at_take (drop (8 * i) message))
 
 pub returns : goal.returns
 returns c =

@@ -11,7 +11,7 @@ loop-i-preserved c =
     let k = length c.fill.new.self in
     let fits : 8 * length payload ≤ k = omega (arith, c.fill.ensures.len, c.requires) in
     let span : 8 * i + 8 - 8 * i ≡ 8 = omega arith in
-    ap₂ (λ n ys. put_mid (8 * i) n c.loop-i.message ys) span c.spell-byte.ensures
+    ap₂ (λ n ys. put_mid (8 * i) n c.loop-i.message ys) span c.spell_byte.ensures
     ∙ ap (λ xs. put_mid (8 * i) 8 xs (bits_of_byte (get_or payload i 0))) c.loop-i.invariant
     ∙ carrying_more k payload i c.loop-i-test.true fits
 

@@ -10,26 +10,26 @@ use Rattle.memory_laws.proofs.Outcomes.{page_there}
 use Rattle.memory_laws.proofs.Refusing.{patrol_refused}
 use Rattle.memories.proofs.patrols.patrol_joined.Goals as goal
 
-pub returns-in-err-check-page : goal.returns-in-err-check-page
-returns-in-err-check-page g c =
+pub returns-in_err-check_page : goal.returns-in_err-check_page
+returns-in_err-check_page g c =
     let mm = g.M.Medium.model c.args.medium.now in
     let cm = g.C.Code.model c.args.code.now in
     let page = c.args.page in
-    let f = c.in-err-check-page.field-0.0 in
-    let due = subst (λ (n : ℕ). cond (ltb page n) None (Some (fault PageOutOfRange Medium page)) ≡ Some f) (c.pages.ensures c.requires.medium) (checked_err _ c.in-err-check-page.ensures) in
-    let is = raised c.from-residual.result c.from-residual.ensures.1 in
+    let f = c.in_err-check_page.field-0.0 in
+    let due = subst (λ (n : ℕ). cond (ltb page n) None (Some (fault PageOutOfRange Medium page)) ≡ Some f) (c.pages.ensures c.requires.medium) (checked_err _ c.in_err-check_page.ensures) in
+    let is = raised c.from_residual.result c.from_residual.ensures.1 in
     record {
       patrolled = (c.requires.medium, subst (λ (r : Result ℕ Fault). Patrolled mm mm cm page (paged r page)) (sym is) (patrol_refused mm cm page f due));
       lender = refl;
     }
 
-pub mend-page-requires : goal.mend-page-requires
-mend-page-requires g c =
+pub mend_page-requires : goal.mend_page-requires
+mend_page-requires g c =
     let mm = g.M.Medium.model c.args.medium.now in
     let cm = g.C.Code.model c.args.code.now in
     let lc = g.met.C.Code.lawful c.args.code.now c.requires.code in
     let page = c.args.page in
-    let passed = subst (λ (n : ℕ). cond (ltb page n) None (Some (fault PageOutOfRange Medium page)) ≡ None) (c.pages.ensures c.requires.medium) (checked_ok _ c.in-ok-check-page.ensures) in
+    let passed = subst (λ (n : ℕ). cond (ltb page n) None (Some (fault PageOutOfRange Medium page)) ≡ None) (c.pages.ensures c.requires.medium) (checked_ok _ c.in_ok-check_page.ensures) in
     let few_bits : cm.message_len ≤ 4096 = omega (arith, lc.message_within, lc.short) in
     let zeros = cleared cm.len c.len-cells.result (c.len-cells.ensures c.requires.code) lc.short in
     record {
@@ -37,7 +37,7 @@ mend-page-requires g c =
       code = c.requires.code;
       joins = c.requires.joins;
       page = page_there mm page passed;
-      message = cleared cm.message_len c.message-len-bits.result (c.message-len-bits.ensures c.requires.code) few_bits;
+      message = cleared cm.message_len c.message_len-bits.result (c.message_len-bits.ensures c.requires.code) few_bits;
       word = zeros;
       marks = zeros;
     }

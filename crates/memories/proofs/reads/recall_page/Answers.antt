@@ -8,8 +8,8 @@ use Rattle.memory_laws.proofs.Outcomes.{payload_passed}
 use Rattle.memory_laws.proofs.Restoring.{read_gave, read_failed}
 use Rattle.memories.proofs.reads.recall_page.Goals as goal
 
-pub restore-page-requires : goal.restore-page-requires
-restore-page-requires g c =
+pub restore_page-requires : goal.restore_page-requires
+restore_page-requires g c =
     let mm = g.M.Medium.model c.args.medium.now in
     let cm = g.C.Code.model c.args.code.now in
     record {
@@ -22,19 +22,19 @@ restore-page-requires g c =
       marks = c.requires.marks;
     }
 
-pub returns-in-err-harm : goal.returns-in-err-harm
-returns-in-err-harm g c =
+pub returns-in_err-harm : goal.returns-in_err-harm
+returns-in_err-harm g c =
     let mm = g.M.Medium.model c.args.medium.now in
-    let mid = g.M.Medium.model c.restore-page.new.medium in
+    let mid = g.M.Medium.model c.restore_page.new.medium in
     let cm = g.C.Code.model c.args.code.now in
     let p = c.args.page in
     let payload = c.args.payload.now in
-    let f = c.in-err-harm.field-0.0 in
-    let is = raised c.from-residual.result c.from-residual.ensures.1 in
-    let kept = c.restore-page.ensures.kept in
+    let f = c.in_err-harm.field-0.0 in
+    let is = raised c.from_residual.result c.from_residual.ensures.1 in
+    let kept = c.restore_page.ensures.kept in
     record {
-      recalled = (kept.0, subst (λ (r : Result ℕ Fault). Recalled mm mid cm p payload payload (paged r p)) (sym is) (read_failed mm mid cm p kept.1 c.restore-page.new.message c.restore-page.new.word payload f c.requires.passed c.in-err-harm.ensures.restored));
-      lender = c.restore-page.ensures.lender;
+      recalled = (kept.0, subst (λ (r : Result ℕ Fault). Recalled mm mid cm p payload payload (paged r p)) (sym is) (read_failed mm mid cm p kept.1 c.restore_page.new.message c.restore_page.new.word payload f c.requires.passed c.in_err-harm.ensures.restored));
+      lender = c.restore_page.ensures.lender;
     }
 
 pub gather-requires : goal.gather-requires
@@ -42,20 +42,20 @@ gather-requires g c =
     let mm = g.M.Medium.model c.args.medium.now in
     let cm = g.C.Code.model c.args.code.now in
     let fit = (payload_passed mm cm c.args.page c.args.payload.now c.requires.passed).1.0 in
-    let is-message = c.in-ok-harm.ensures.restored.0.0.0 in
-    (omega (arith, fit, is-message.0), subst (λ (x : ℕ). All (λ v. v < 2 ^ x) c.restore-page.new.message) c.requires.joins.bits is-message.1)
+    let is-message = c.in_ok-harm.ensures.restored.0.0.0 in
+    (omega (arith, fit, is-message.0), subst (λ (x : ℕ). All (λ v. v < 2 ^ x) c.restore_page.new.message) c.requires.joins.bits is-message.1)
 
 pub returns : goal.returns
 returns g c =
     let mm = g.M.Medium.model c.args.medium.now in
-    let mid = g.M.Medium.model c.restore-page.new.medium in
+    let mid = g.M.Medium.model c.restore_page.new.medium in
     let cm = g.C.Code.model c.args.code.now in
     let p = c.args.page in
     let payload = c.args.payload.now in
-    let message = c.restore-page.new.message in
+    let message = c.restore_page.new.message in
     let fit = (payload_passed mm cm p payload c.requires.passed).1.0 in
-    let kept = c.restore-page.ensures.kept in
+    let kept = c.restore_page.ensures.kept in
     record {
-      recalled = (kept.0, read_gave mm mid cm p kept.1 message c.restore-page.new.word payload c.gather.new.payload c.in-ok-harm.harm c.requires.passed c.in-ok-harm.ensures.restored (c.gather.ensures ∙ ap (λ n. bytes_of n message) fit));
-      lender = c.restore-page.ensures.lender;
+      recalled = (kept.0, read_gave mm mid cm p kept.1 message c.restore_page.new.word payload c.gather.new.payload c.in_ok-harm.harm c.requires.passed c.in_ok-harm.ensures.restored (c.gather.ensures ∙ ap (λ n. bytes_of n message) fit));
+      lender = c.restore_page.ensures.lender;
     }

@@ -11,13 +11,13 @@ use Rattle.pile_laws.proofs.Scans.{each_lawful, length_models}
 use Rattle.pile_laws.proofs.Stepping.{choices_step}
 use Rattle.piles.proofs.choices.choose_all.Goals as goal
 
-pub returns-in-err-choose-stage : goal.returns-in-err-choose-stage
-returns-in-err-choose-stage g c =
+pub returns-in_err-choose_stage : goal.returns-in_err-choose_stage
+returns-in_err-choose_stage g c =
     let k = c.loop-chosen.chosen in
     let words = words_in c.args.columns k c.loop-chosen.words in
     let many = length_words_in c.args.columns k c.loop-chosen.words in
-    let refused = c.in-err-choose-stage.ensures in
-    rw (raised c.from-residual.result c.from-residual.ensures.1)
+    let refused = c.in_err-choose_stage.ensures in
+    rw (raised c.from_residual.result c.from_residual.ensures.1)
     (words, c.loop-chosen.invariant, omega (arith, many, length_models g.A.Code.model c.args.codes.now, c.loop-chosen-test.true), refused.1, refused.0 ∙ ap (λ (i : ℕ). fault NoCodeword Code (suc i)) (sym many))
 
 pub loop-chosen-preserved : goal.loop-chosen-preserved
@@ -25,8 +25,8 @@ loop-chosen-preserved g c =
     let model = g.A.Code.model in
     let codes = c.args.codes.now in
     let laws = each_lawful model g.A.Code.sound codes g.met.A.Code.lawful c.requires.parts.1 in
-    let chosen = c.in-ok-choose-stage.ensures in
-    choices_step (g.H.Chain.model c.args.chain.now) (map model codes) laws c.requires.parts.2 c.args.word.now c.args.marks.now c.args.columns c.requires.columns.0 c.loop-chosen.chosen c.loop-chosen.words c.loop-chosen.invariant c.choose-stage.new.words chosen.0 chosen.1
+    let chosen = c.in_ok-choose_stage.ensures in
+    choices_step (g.H.Chain.model c.args.chain.now) (map model codes) laws c.requires.parts.2 c.args.word.now c.args.marks.now c.args.columns c.requires.columns.0 c.loop-chosen.chosen c.loop-chosen.words c.loop-chosen.invariant c.choose_stage.new.words chosen.0 chosen.1
 
 pub returns : goal.returns
 returns g c =

@@ -18,8 +18,8 @@ use Rattle.pile_laws.proofs.Scans.{codes_many, each_lawful, length_models, model
 use Rattle.pile_laws.proofs.Stepping.{labels_chosen, stage_answers, stage_chosen, stage_without}
 use Rattle.piles.proofs.choices.choose_in.Goals as goal
 
-pub estimate-columns-requires : goal.estimate-columns-requires
-estimate-columns-requires g c =
+pub estimate_columns-requires : goal.estimate_columns-requires
+estimate_columns-requires g c =
     let model = g.A.Code.model in
     let codes = c.args.codes.now in
     let h = g.H.Chain.model c.args.chain.now in
@@ -35,30 +35,30 @@ estimate-columns-requires g c =
       estimates = c.requires.columns.1.1;
     }
 
-pub returns-in-err-inner : goal.returns-in-err-inner
-returns-in-err-inner g c =
+pub returns-in_err-inner : goal.returns-in_err-inner
+returns-in_err-inner g c =
     let h = g.H.Chain.model c.args.chain.now in
     let many = codes_many g.A.Code.model c.args.codes.now h c.requires.parts.2 in
-    absurd (stage_never (g.H.Chain.sound c.args.chain.now) h h.distance (c.args.chosen + 1) c.in-err-inner.field-0.0 c.requires.parts.0 (omega arith, omega (arith, many, c.requires.stage.0)) c.in-err-inner.ensures)
+    absurd (stage_never (g.H.Chain.sound c.args.chain.now) h h.distance (c.args.chosen + 1) c.in_err-inner.field-0.0 c.requires.parts.0 (omega arith, omega (arith, many, c.requires.stage.0)) c.in_err-inner.ensures)
 
-pub slice-bounds-part-end : goal.slice-bounds-part-end
-slice-bounds-part-end g c =
+pub slice_bounds-part-end : goal.slice_bounds-part-end
+slice_bounds-part-end g c =
     let room = part_in c.args.columns (length c.args.codes.now) c.args.chosen c.requires.stage.0 in
     let here : c.args.columns * c.args.chosen + c.args.columns ≤ length c.args.words.now = omega (arith, room, c.requires.stage.1.0) in
     search rules
 
-pub overflow-cast-inner : goal.overflow-cast-inner
-overflow-cast-inner g c =
+pub overflow_cast-inner : goal.overflow_cast-inner
+overflow_cast-inner g c =
     let chain = c.args.chain.now in
     let h = g.H.Chain.model chain in
     let law = g.met.H.Chain.lawful chain c.requires.parts.0 in
     let many = codes_many g.A.Code.model c.args.codes.now h c.requires.parts.2 in
     let stage : Stage h (c.args.chosen + 1) = (omega arith, omega (arith, many, c.requires.stage.0)) in
-    let is = stage_number (g.H.Chain.sound chain) h h.distance (c.args.chosen + 1) c.in-ok-inner.inner c.requires.parts.0 stage c.in-ok-inner.ensures in
+    let is = stage_number (g.H.Chain.sound chain) h h.distance (c.args.chosen + 1) c.in_ok-inner.inner c.requires.parts.0 stage c.in_ok-inner.ensures in
     record { fits = omega (arith, is, within h law (c.args.chosen + 1) stage, law.few_cells) }
 
-pub returns-in-err-choose : goal.returns-in-err-choose
-returns-in-err-choose g c =
+pub returns-in_err-choose : goal.returns-in_err-choose
+returns-in_err-choose g c =
     let model = g.A.Code.model in
     let codes = c.args.codes.now in
     let chain = c.args.chain.now in
@@ -72,7 +72,7 @@ returns-in-err-choose g c =
     let a = c.index-codes-chosen.result in
     let few : k < length cs = omega (arith, length_models model codes, c.requires.stage.0) in
     let stage : Stage h (k + 1) = (omega arith, omega (arith, many, c.requires.stage.0)) in
-    let distance : c.in-ok-inner.inner ≡ h.distance (suc k) = stage_number (g.H.Chain.sound chain) h h.distance (k + 1) c.in-ok-inner.inner c.requires.parts.0 stage c.in-ok-inner.ensures ∙ ap h.distance (add-one k) in
+    let distance : c.in_ok-inner.inner ≡ h.distance (suc k) = stage_number (g.H.Chain.sound chain) h h.distance (k + 1) c.in_ok-inner.inner c.requires.parts.0 stage c.in_ok-inner.ensures ∙ ap h.distance (add-one k) in
     let room = part_in n (length codes) k c.requires.stage.0 in
     let fits : n * k + n ≤ length row = omega (arith, room, c.requires.stage.1.0) in
     let span = n * k + n - n * k in
@@ -80,11 +80,11 @@ returns-in-err-choose g c =
     let part : length (take (n * k + n - n * k) (drop (n * k) row)) ≡ n = ap (λ (i : ℕ). length (take i (drop (n * k) row))) width ∙ length-take-le n (drop (n * k) row) (omega (arith, length-drop (n * k) row, fits)) in
     let long : length c.choose.new.word ≡ n = c.choose.auto.word ∙ part in
     let sound = subst g.A.Code.sound (sym c.index-codes-chosen.is) (All-get_or g.A.Code.sound codes k a c.requires.stage.0 c.requires.parts.1) in
-    let es = c.estimate-columns.new.estimates in
-    let les : length es ≡ n = c.estimate-columns.auto.estimates ∙ c.requires.columns.1.1 in
-    let each = c.in-ok-estimate-columns.ensures in
+    let es = c.estimate_columns.new.estimates in
+    let les : length es ≡ n = c.estimate_columns.auto.estimates ∙ c.requires.columns.1.1 in
+    let each = c.in_ok-estimate_columns.ensures in
     let is = model_at model codes k a c.requires.stage.0 c.index-codes-chosen.is in
-    absurd (stage_answers h cs laws c.requires.parts.2 c.args.word.now c.args.marks.now n c.requires.columns.0 k row c.requires.stage.1.1 few es les each (model a) is c.in-ok-inner.inner distance fits span width c.choose.new.word long (Err c.in-err-choose.field-0.0) (c.in-err-choose.ensures.sound sound) c.in-err-choose.field-0.0 refl)
+    absurd (stage_answers h cs laws c.requires.parts.2 c.args.word.now c.args.marks.now n c.requires.columns.0 k row c.requires.stage.1.1 few es les each (model a) is c.in_ok-inner.inner distance fits span width c.choose.new.word long (Err c.in_err-choose.field-0.0) (c.in_err-choose.ensures.sound sound) c.in_err-choose.field-0.0 refl)
 
 pub returns-in-Some : goal.returns-in-Some
 returns-in-Some g c =
@@ -101,7 +101,7 @@ returns-in-Some g c =
     let a = c.index-codes-chosen.result in
     let few : k < length cs = omega (arith, length_models model codes, c.requires.stage.0) in
     let stage : Stage h (k + 1) = (omega arith, omega (arith, many, c.requires.stage.0)) in
-    let distance : c.in-ok-inner.inner ≡ h.distance (suc k) = stage_number (g.H.Chain.sound chain) h h.distance (k + 1) c.in-ok-inner.inner c.requires.parts.0 stage c.in-ok-inner.ensures ∙ ap h.distance (add-one k) in
+    let distance : c.in_ok-inner.inner ≡ h.distance (suc k) = stage_number (g.H.Chain.sound chain) h h.distance (k + 1) c.in_ok-inner.inner c.requires.parts.0 stage c.in_ok-inner.ensures ∙ ap h.distance (add-one k) in
     let room = part_in n (length codes) k c.requires.stage.0 in
     let fits : n * k + n ≤ length row = omega (arith, room, c.requires.stage.1.0) in
     let span = n * k + n - n * k in
@@ -109,11 +109,11 @@ returns-in-Some g c =
     let part : length (take (n * k + n - n * k) (drop (n * k) row)) ≡ n = ap (λ (i : ℕ). length (take i (drop (n * k) row))) width ∙ length-take-le n (drop (n * k) row) (omega (arith, length-drop (n * k) row, fits)) in
     let long : length c.choose.new.word ≡ n = c.choose.auto.word ∙ part in
     let sound = subst g.A.Code.sound (sym c.index-codes-chosen.is) (All-get_or g.A.Code.sound codes k a c.requires.stage.0 c.requires.parts.1) in
-    let es = c.estimate-columns.new.estimates in
-    let les : length es ≡ n = c.estimate-columns.auto.estimates ∙ c.requires.columns.1.1 in
-    let each = c.in-ok-estimate-columns.ensures in
+    let es = c.estimate_columns.new.estimates in
+    let les : length es ≡ n = c.estimate_columns.auto.estimates ∙ c.requires.columns.1.1 in
+    let each = c.in_ok-estimate_columns.ensures in
     let is = model_at model codes k a c.requires.stage.0 c.index-codes-chosen.is in
-    stage_chosen h cs laws c.requires.parts.2 c.args.word.now c.args.marks.now n c.requires.columns.0 k row c.requires.stage.1.1 few es les each (model a) is c.in-ok-inner.inner distance fits span width c.choose.new.word long (Ok c.in-ok-choose.field-0) (c.in-ok-choose.ensures.sound sound) c.in-Some.field-0 (ap Ok c.in-Some.is)
+    stage_chosen h cs laws c.requires.parts.2 c.args.word.now c.args.marks.now n c.requires.columns.0 k row c.requires.stage.1.1 few es les each (model a) is c.in_ok-inner.inner distance fits span width c.choose.new.word long (Ok c.in_ok-choose.field-0) (c.in_ok-choose.ensures.sound sound) c.in-Some.field-0 (ap Ok c.in-Some.is)
 
 pub returns-in-None : goal.returns-in-None
 returns-in-None g c =
@@ -130,7 +130,7 @@ returns-in-None g c =
     let a = c.index-codes-chosen.result in
     let few : k < length cs = omega (arith, length_models model codes, c.requires.stage.0) in
     let stage : Stage h (k + 1) = (omega arith, omega (arith, many, c.requires.stage.0)) in
-    let distance : c.in-ok-inner.inner ≡ h.distance (suc k) = stage_number (g.H.Chain.sound chain) h h.distance (k + 1) c.in-ok-inner.inner c.requires.parts.0 stage c.in-ok-inner.ensures ∙ ap h.distance (add-one k) in
+    let distance : c.in_ok-inner.inner ≡ h.distance (suc k) = stage_number (g.H.Chain.sound chain) h h.distance (k + 1) c.in_ok-inner.inner c.requires.parts.0 stage c.in_ok-inner.ensures ∙ ap h.distance (add-one k) in
     let room = part_in n (length codes) k c.requires.stage.0 in
     let fits : n * k + n ≤ length row = omega (arith, room, c.requires.stage.1.0) in
     let span = n * k + n - n * k in
@@ -138,8 +138,8 @@ returns-in-None g c =
     let part : length (take (n * k + n - n * k) (drop (n * k) row)) ≡ n = ap (λ (i : ℕ). length (take i (drop (n * k) row))) width ∙ length-take-le n (drop (n * k) row) (omega (arith, length-drop (n * k) row, fits)) in
     let long : length c.choose.new.word ≡ n = c.choose.auto.word ∙ part in
     let sound = subst g.A.Code.sound (sym c.index-codes-chosen.is) (All-get_or g.A.Code.sound codes k a c.requires.stage.0 c.requires.parts.1) in
-    let es = c.estimate-columns.new.estimates in
-    let les : length es ≡ n = c.estimate-columns.auto.estimates ∙ c.requires.columns.1.1 in
-    let each = c.in-ok-estimate-columns.ensures in
+    let es = c.estimate_columns.new.estimates in
+    let les : length es ≡ n = c.estimate_columns.auto.estimates ∙ c.requires.columns.1.1 in
+    let each = c.in_ok-estimate_columns.ensures in
     let is = model_at model codes k a c.requires.stage.0 c.index-codes-chosen.is in
-    (c.new.ensures ∙ ap (λ (i : ℕ). fault NoCodeword Code i) (add-one k), stage_without h cs laws c.requires.parts.2 c.args.word.now c.args.marks.now n c.requires.columns.0 k row c.requires.stage.1.1 few es les each (model a) is c.in-ok-inner.inner distance fits span width c.choose.new.word long (Ok c.in-ok-choose.field-0) (c.in-ok-choose.ensures.sound sound) (ap Ok c.in-None.is))
+    (c.new.ensures ∙ ap (λ (i : ℕ). fault NoCodeword Code i) (add-one k), stage_without h cs laws c.requires.parts.2 c.args.word.now c.args.marks.now n c.requires.columns.0 k row c.requires.stage.1.1 few es les each (model a) is c.in_ok-inner.inner distance fits span width c.choose.new.word long (Ok c.in_ok-choose.field-0) (c.in_ok-choose.ensures.sound sound) (ap Ok c.in-None.is))

@@ -11,31 +11,31 @@ use Rattle.pile_laws.proofs.Columns.{length_column}
 use Rattle.pile_laws.proofs.Flat.{part_in}
 use Rattle.piles.proofs.choices.estimate_columns.Goals as goal
 
-pub overflow-add-end : goal.overflow-add-end
-overflow-add-end g c =
+pub overflow_add-end : goal.overflow_add-end
+overflow_add-end g c =
     let b = c.breadth-breadth.result in
     let room = part_in b c.args.columns c.loop-j.j c.loop-j-test.true in
     let long : length c.args.word.now ≡ b * c.args.columns = c.requires.word.0.0 ∙ ap (λ (m : ℕ). m * c.args.columns) (sym c.breadth-breadth.ensures) in
     record { fits = omega (arith, room, long) }
 
-pub slice-bounds-estimate-column-end : goal.slice-bounds-estimate-column-end
-slice-bounds-estimate-column-end g c =
+pub slice_bounds-estimate_column-end : goal.slice_bounds-estimate_column-end
+slice_bounds-estimate_column-end g c =
     let b = c.breadth-breadth.result in
     let room = part_in b c.args.columns c.loop-j.j c.loop-j-test.true in
     let long : length c.args.word.now ≡ b * c.args.columns = c.requires.word.0.0 ∙ ap (λ (m : ℕ). m * c.args.columns) (sym c.breadth-breadth.ensures) in
     let here : b * c.loop-j.j + b ≤ length c.args.word.now = omega (arith, room, long) in
     search rules
 
-pub slice-bounds-estimate-column-end-in-loop-j : goal.slice-bounds-estimate-column-end-in-loop-j
-slice-bounds-estimate-column-end-in-loop-j g c =
+pub slice_bounds-estimate_column-end-in-loop-j : goal.slice_bounds-estimate_column-end-in-loop-j
+slice_bounds-estimate_column-end-in-loop-j g c =
     let b = c.breadth-breadth.result in
     let room = part_in b c.args.columns c.loop-j.j c.loop-j-test.true in
     let long : length c.args.marks.now ≡ b * c.args.columns = c.requires.word.1.0 ∙ ap (λ (m : ℕ). m * c.args.columns) (sym c.breadth-breadth.ensures) in
     let here : b * c.loop-j.j + b ≤ length c.args.marks.now = omega (arith, room, long) in
     search rules
 
-pub estimate-column-requires : goal.estimate-column-requires
-estimate-column-requires g c =
+pub estimate_column-requires : goal.estimate_column-requires
+estimate_column-requires g c =
     let h = g.H.Chain.model c.args.chain.now in
     let b = c.breadth-breadth.result in
     let j = c.loop-j.j in
@@ -58,5 +58,5 @@ loop-j-preserved g c =
     let start : b * j ≡ h.breadth * j = ap (λ (m : ℕ). m * j) c.breadth-breadth.ensures in
     let span : b * j + b - b * j ≡ h.breadth = omega (arith, c.breadth-breadth.ensures) in
     let is : (xs : List ℕ) → take (b * j + b - b * j) (drop (b * j) xs) ≡ column h.breadth j xs = λ xs. ap₂ (λ (k a : ℕ). take k (drop a xs)) span start in
-    let here : Estimates h (suc c.args.chosen) (labels j) (column h.breadth j word) (column h.breadth j marks) c.in-ok-estimate.estimate = subst (λ (ms : List ℕ). Estimates h (suc c.args.chosen) (labels j) (column h.breadth j word) ms c.in-ok-estimate.estimate) (is marks) (subst (λ (ws : List ℕ). Estimates h (suc c.args.chosen) (labels j) ws (take (b * j + b - b * j) (drop (b * j) marks)) c.in-ok-estimate.estimate) (is word) c.in-ok-estimate.ensures) in
-    filled_more (λ i e. Estimates h (suc c.args.chosen) (labels i) (column h.breadth i word) (column h.breadth i marks) e) c.loop-j.estimates j c.in-ok-estimate.estimate None (omega (arith, c.loop-j.auto.estimates, c.requires.estimates, c.loop-j-test.true)) c.loop-j.invariant here
+    let here : Estimates h (suc c.args.chosen) (labels j) (column h.breadth j word) (column h.breadth j marks) c.in_ok-estimate.estimate = subst (λ (ms : List ℕ). Estimates h (suc c.args.chosen) (labels j) (column h.breadth j word) ms c.in_ok-estimate.estimate) (is marks) (subst (λ (ws : List ℕ). Estimates h (suc c.args.chosen) (labels j) ws (take (b * j + b - b * j) (drop (b * j) marks)) c.in_ok-estimate.estimate) (is word) c.in_ok-estimate.ensures) in
+    filled_more (λ i e. Estimates h (suc c.args.chosen) (labels i) (column h.breadth i word) (column h.breadth i marks) e) c.loop-j.estimates j c.in_ok-estimate.estimate None (omega (arith, c.loop-j.auto.estimates, c.requires.estimates, c.loop-j-test.true)) c.loop-j.invariant here

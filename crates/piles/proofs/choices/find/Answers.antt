@@ -25,8 +25,8 @@ ok_same e = cc
 never_ok : {f : Fault} {y : ℕ} → ◌≡◌ {A = Result ℕ Fault} (Err f) (Ok y) → ⊥
 never_ok e = let z : ◌≡◌ {A = ℕ} 0 1 = cc in omega arith
 
-pub lay-columns-requires : goal.lay-columns-requires
-lay-columns-requires g c =
+pub lay_columns-requires : goal.lay_columns-requires
+lay_columns-requires g c =
     let model = g.A.Code.model in
     let codes = c.args.codes.now in
     let chain = c.args.chain.now in
@@ -35,16 +35,16 @@ lay-columns-requires g c =
     let law = g.met.H.Chain.lawful chain c.requires.parts.0 in
     let laws = each_lawful model g.A.Code.sound codes g.met.A.Code.lawful c.requires.parts.1 in
     let many : length codes ≡ h.stages = codes_many model codes h c.requires.parts.2 in
-    let row = c.choose-all.new.words in
+    let row = c.choose_all.new.words in
     let n = c.args.columns in
     let word = c.args.word.now in
     let marks = c.args.marks.now in
-    let choices = c.in-ok-choose-all.ensures in
+    let choices = c.in_ok-choose_all.ensures in
     let rows = rows_chosen h cs laws c.requires.parts.2 word marks n c.requires.columns.0 (length codes) row choices law (sym (length_models model codes)) in
-    (c.requires.parts.0, (omega (arith, c.requires.room, c.choose-all.auto.words, ap (λ (m : ℕ). n * m) many), (c.requires.word.1 ∙ c.requires.word.0.0.0, λ j l. subst (λ (s : ℕ). Row h (labels_at (words_in n s row) j)) many (rows j l))))
+    (c.requires.parts.0, (omega (arith, c.requires.room, c.choose_all.auto.words, ap (λ (m : ℕ). n * m) many), (c.requires.word.1 ∙ c.requires.word.0.0.0, λ j l. subst (λ (s : ℕ). Row h (labels_at (words_in n s row) j)) many (rows j l))))
 
-pub returns-in-err-far : goal.returns-in-err-far
-returns-in-err-far g c =
+pub returns-in_err-far : goal.returns-in_err-far
+returns-in_err-far g c =
     let model = g.A.Code.model in
     let codes = c.args.codes.now in
     let chain = c.args.chain.now in
@@ -53,21 +53,21 @@ returns-in-err-far g c =
     let law = g.met.H.Chain.lawful chain c.requires.parts.0 in
     let laws = each_lawful model g.A.Code.sound codes g.met.A.Code.lawful c.requires.parts.1 in
     let many : length codes ≡ h.stages = codes_many model codes h c.requires.parts.2 in
-    let row = c.choose-all.new.words in
+    let row = c.choose_all.new.words in
     let n = c.args.columns in
     let word = c.args.word.now in
     let marks = c.args.marks.now in
-    let choices = c.in-ok-choose-all.ensures in
-    let found = c.lay-columns.new.cells in
-    let is : found ≡ laid h n (words_in n (length codes) row) = c.in-ok-lay-columns.ensures ∙ ap (λ (s : ℕ). laid h n (words_in n s row)) (sym many) in
+    let choices = c.in_ok-choose_all.ensures in
+    let found = c.lay_columns.new.cells in
+    let is : found ≡ laid h n (words_in n (length codes) row) = c.in_ok-lay_columns.ensures ∙ ap (λ (s : ℕ). laid h n (words_in n s row)) (sym many) in
     let cells = laid_chosen h cs laws c.requires.parts.2 word marks n c.requires.columns.0 (length codes) row choices law (sym (length_models model codes)) in
     let short : length word ≤ 4096 = omega (arith, c.requires.word.0.0.0, (fitting h cs c.requires.parts.2).1, ap (λ (m : ℕ). h.breadth * m) c.requires.columns.0) in
     let bytes : (xs : List ℕ) → All (λ x. x < 2) xs → All (λ x. x < 256) xs = λ xs a. All-weaker (λ x. x < 2) (λ x. x < 256) (λ x l. omega arith) xs a in
     let measured = harm_answer Code word marks found short (c.requires.word.0.1.0 ∙ sym c.requires.word.0.0.0) (ap length is ∙ cells.0 ∙ sym c.requires.word.0.0.0) c.requires.word.0.1.1 (bytes word c.requires.word.0.0.1) (subst (All (λ x. x < 256)) (sym is) (bytes _ cells.1)) in
-    absurd (never_ok (c.in-err-far.ensures ∙ measured))
+    absurd (never_ok (c.in_err-far.ensures ∙ measured))
 
-pub returns-in-err-check-near : goal.returns-in-err-check-near
-returns-in-err-check-near g c =
+pub returns-in_err-check_near : goal.returns-in_err-check_near
+returns-in_err-check_near g c =
     let model = g.A.Code.model in
     let codes = c.args.codes.now in
     let chain = c.args.chain.now in
@@ -76,24 +76,24 @@ returns-in-err-check-near g c =
     let law = g.met.H.Chain.lawful chain c.requires.parts.0 in
     let laws = each_lawful model g.A.Code.sound codes g.met.A.Code.lawful c.requires.parts.1 in
     let many : length codes ≡ h.stages = codes_many model codes h c.requires.parts.2 in
-    let row = c.choose-all.new.words in
+    let row = c.choose_all.new.words in
     let n = c.args.columns in
     let word = c.args.word.now in
     let marks = c.args.marks.now in
-    let choices = c.in-ok-choose-all.ensures in
-    let found = c.lay-columns.new.cells in
-    let is : found ≡ laid h n (words_in n (length codes) row) = c.in-ok-lay-columns.ensures ∙ ap (λ (s : ℕ). laid h n (words_in n s row)) (sym many) in
+    let choices = c.in_ok-choose_all.ensures in
+    let found = c.lay_columns.new.cells in
+    let is : found ≡ laid h n (words_in n (length codes) row) = c.in_ok-lay_columns.ensures ∙ ap (λ (s : ℕ). laid h n (words_in n s row)) (sym many) in
     let cells = laid_chosen h cs laws c.requires.parts.2 word marks n c.requires.columns.0 (length codes) row choices law (sym (length_models model codes)) in
     let short : length word ≤ 4096 = omega (arith, c.requires.word.0.0.0, (fitting h cs c.requires.parts.2).1, ap (λ (m : ℕ). h.breadth * m) c.requires.columns.0) in
     let bytes : (xs : List ℕ) → All (λ x. x < 2) xs → All (λ x. x < 256) xs = λ xs a. All-weaker (λ x. x < 2) (λ x. x < 256) (λ x l. omega arith) xs a in
     let measured = harm_answer Code word marks found short (c.requires.word.0.1.0 ∙ sym c.requires.word.0.0.0) (ap length is ∙ cells.0 ∙ sym c.requires.word.0.0.0) c.requires.word.0.1.1 (bytes word c.requires.word.0.0.1) (subst (All (λ x. x < 256)) (sym is) (bytes _ cells.1)) in
-    let far : c.in-ok-far.far ≡ harm word marks found = ok_same (c.in-ok-far.ensures ∙ measured) in
-    let reach-is : c.in-ok-least-reach.field-0 ≡ reach h cs = c.in-ok-least-reach.ensures in
+    let far : c.in_ok-far.far ≡ harm word marks found = ok_same (c.in_ok-far.ensures ∙ measured) in
+    let reach-is : c.in_ok-least_reach.field-0 ≡ reach h cs = c.in_ok-least_reach.ensures in
     let words = words_in n (length codes) row in
     let all : length words ≡ length cs = length_words_in n (length codes) row ∙ sym (length_models model codes) in
-    let refused = c.in-err-check-near.ensures in
+    let refused = c.in_err-check_near.ensures in
     let laid-is : found ≡ laid h (columns cs) words = is ∙ ap (λ (m : ℕ). laid h m words) c.requires.columns.0 in
-    rw (raised c.from-residual-in-err-check-near.result c.from-residual-in-err-check-near.ensures.1)
+    rw (raised c.from_residual-in_err-check_near.result c.from_residual-in_err-check_near.ensures.1)
     (0, (words, choices, inr (refl, all, omega (arith, refused.0, far, reach-is, ap (harm word marks) laid-is))), refused.1)
 
 pub returns : goal.returns
@@ -106,17 +106,17 @@ returns g c =
     let law = g.met.H.Chain.lawful chain c.requires.parts.0 in
     let laws = each_lawful model g.A.Code.sound codes g.met.A.Code.lawful c.requires.parts.1 in
     let many : length codes ≡ h.stages = codes_many model codes h c.requires.parts.2 in
-    let row = c.choose-all.new.words in
+    let row = c.choose_all.new.words in
     let n = c.args.columns in
     let word = c.args.word.now in
     let marks = c.args.marks.now in
-    let choices = c.in-ok-choose-all.ensures in
-    let found = c.lay-columns.new.cells in
-    let is : found ≡ laid h n (words_in n (length codes) row) = c.in-ok-lay-columns.ensures ∙ ap (λ (s : ℕ). laid h n (words_in n s row)) (sym many) in
+    let choices = c.in_ok-choose_all.ensures in
+    let found = c.lay_columns.new.cells in
+    let is : found ≡ laid h n (words_in n (length codes) row) = c.in_ok-lay_columns.ensures ∙ ap (λ (s : ℕ). laid h n (words_in n s row)) (sym many) in
     let cells = laid_chosen h cs laws c.requires.parts.2 word marks n c.requires.columns.0 (length codes) row choices law (sym (length_models model codes)) in
     let short : length word ≤ 4096 = omega (arith, c.requires.word.0.0.0, (fitting h cs c.requires.parts.2).1, ap (λ (m : ℕ). h.breadth * m) c.requires.columns.0) in
     let bytes : (xs : List ℕ) → All (λ x. x < 2) xs → All (λ x. x < 256) xs = λ xs a. All-weaker (λ x. x < 2) (λ x. x < 256) (λ x l. omega arith) xs a in
     let measured = harm_answer Code word marks found short (c.requires.word.0.1.0 ∙ sym c.requires.word.0.0.0) (ap length is ∙ cells.0 ∙ sym c.requires.word.0.0.0) c.requires.word.0.1.1 (bytes word c.requires.word.0.0.1) (subst (All (λ x. x < 256)) (sym is) (bytes _ cells.1)) in
-    let far : c.in-ok-far.far ≡ harm word marks found = ok_same (c.in-ok-far.ensures ∙ measured) in
-    let reach-is : c.in-ok-least-reach.field-0 ≡ reach h cs = c.in-ok-least-reach.ensures in
-    (choices, is, far, omega (arith, c.in-ok-check-near.ensures, far, reach-is))
+    let far : c.in_ok-far.far ≡ harm word marks found = ok_same (c.in_ok-far.ensures ∙ measured) in
+    let reach-is : c.in_ok-least_reach.field-0 ≡ reach h cs = c.in_ok-least_reach.ensures in
+    (choices, is, far, omega (arith, c.in_ok-check_near.ensures, far, reach-is))

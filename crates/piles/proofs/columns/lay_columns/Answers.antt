@@ -7,15 +7,15 @@ use Rattle.pile_laws.proofs.Columns.{laid_more}
 use Rattle.pile_laws.proofs.Flat.{part_in}
 use Rattle.piles.proofs.columns.lay_columns.Goals as goal
 
-pub overflow-add-start : goal.overflow-add-start
-overflow-add-start g c =
+pub overflow_add-start : goal.overflow_add-start
+overflow_add-start g c =
     let b = c.breadth-breadth.result in
     let room = part_in b c.args.columns c.loop-j.j c.loop-j-test.true in
     let long : length c.args.cells.now ≡ b * c.args.columns = c.requires.1.1.0 ∙ ap (λ (m : ℕ). m * c.args.columns) (sym c.breadth-breadth.ensures) in
     record { fits = omega (arith, room, long) }
 
-pub slice-bounds-lay-column-end : goal.slice-bounds-lay-column-end
-slice-bounds-lay-column-end g c =
+pub slice_bounds-lay_column-end : goal.slice_bounds-lay_column-end
+slice_bounds-lay_column-end g c =
     let b = c.breadth-breadth.result in
     let room = part_in b c.args.columns c.loop-j.j c.loop-j-test.true in
     let long : length c.args.cells.now ≡ b * c.args.columns = c.requires.1.1.0 ∙ ap (λ (m : ℕ). m * c.args.columns) (sym c.breadth-breadth.ensures) in
@@ -29,13 +29,13 @@ loop-j-preserved g c =
     let j = c.loop-j.j in
     let b = c.breadth-breadth.result in
     let ws = words_in c.args.columns h.stages c.args.words.now in
-    let is = c.in-ok-lay-column.ensures in
+    let is = c.in_ok-lay_column.ensures in
     let ly = ap length is ∙ (law.words (labels_at ws j) (c.requires.1.1.1 j c.loop-j-test.true)).0 in
     let room = part_in h.breadth c.args.columns j c.loop-j-test.true in
     let start : b * j ≡ h.breadth * j = ap (λ (m : ℕ). m * j) c.breadth-breadth.ensures in
     let span : b * j + b - b * j ≡ h.breadth = omega (arith, c.breadth-breadth.ensures) in
-    ap₂ (λ (a k : ℕ). take (h.breadth * (j + 1)) (put_mid a k c.loop-j.cells c.lay-column.new.cells)) start span
-    ∙ laid_more h ws h.breadth j c.loop-j.cells c.lay-column.new.cells (omega (arith, room, c.requires.1.1.0, c.loop-j.auto.cells)) ly is c.loop-j.invariant
+    ap₂ (λ (a k : ℕ). take (h.breadth * (j + 1)) (put_mid a k c.loop-j.cells c.lay_column.new.cells)) start span
+    ∙ laid_more h ws h.breadth j c.loop-j.cells c.lay_column.new.cells (omega (arith, room, c.requires.1.1.0, c.loop-j.auto.cells)) ly is c.loop-j.invariant
 
 pub returns : goal.returns
 returns g c =

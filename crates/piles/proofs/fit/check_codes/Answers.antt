@@ -10,16 +10,16 @@ pub loop-code-preserved : goal.loop-code-preserved
 loop-code-preserved g c =
     let sound = g.A.Code.sound in
     let a = c.code-item.result in
-    All-more sound c.args.codes.now c.loop-code.code-index a c.loop-code-test.true c.loop-code.invariant (subst sound c.code-item.is c.in-ok-check.ensures)
+    All-more sound c.args.codes.now c.loop-code.code-index a c.loop-code-test.true c.loop-code.invariant (subst sound c.code-item.is c.in_ok-check.ensures.sound)
 
-pub returns-in-err-check : goal.returns-in-err-check
-returns-in-err-check g c =
+pub returns-in_err-check : goal.returns-in_err-check
+returns-in_err-check g c =
     let sound = g.A.Code.sound in
     let refuses = g.A.Code.refuses in
     let a = c.code-item.result in
-    let f = c.in-err-check.field-0.0 in
-    let bad = c.in-err-check.ensures in
-    rw (raised c.from-residual.result c.from-residual.ensures.1) (first_unsound sound refuses c.args.codes.now c.loop-code.code-index a f c.loop-code-test.true c.loop-code.invariant (λ s. bad.0 (subst sound (sym c.code-item.is) s)) (subst (λ x. refuses x f) c.code-item.is bad.1))
+    let f = c.in_err-check.field-0.0 in
+    let bad = c.in_err-check.ensures in
+    rw (raised c.from_residual.result c.from_residual.ensures.1) (first_unsound sound refuses c.args.codes.now c.loop-code.code-index a f c.loop-code-test.true c.loop-code.invariant (λ s. bad.sound (subst sound (sym c.code-item.is) s)) (subst (λ x. refuses x f) c.code-item.is bad.refused))
 
 pub returns : goal.returns
 returns g c = subst (All g.A.Code.sound) (take_all _ _ c.loop-code-test.false) c.loop-code.invariant

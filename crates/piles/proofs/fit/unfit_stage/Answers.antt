@@ -11,14 +11,14 @@ fits-requires g c =
 pub returns-then-not-branch : goal.returns-then-not-branch
 returns-then-not-branch g c =
     let h = g.H.Chain.model c.args.chain.now in
-    let found = unfit_found g.A.Code.model c.args.codes.now c.loop-i.i h c.args.columns c.index-codes-i.result c.index-codes-i.is c.loop-i-test.true (sym c.in-ok-fits.ensures ∙ c.if-not-branch.true) in
+    let found = unfit_found g.A.Code.model c.args.codes.now c.loop-i.i h c.args.columns c.index-codes-i.result c.index-codes-i.is c.loop-i-test.true (sym c.in_ok-fits.ensures ∙ c.if-not-branch.true) in
     sym (c.loop-i.invariant ∙ found)
 
 pub loop-i-preserved : goal.loop-i-preserved
 loop-i-preserved g c =
     let h = g.H.Chain.model c.args.chain.now in
     c.loop-i.invariant
-    ∙ unfit_more g.A.Code.model c.args.codes.now c.loop-i.i h c.args.columns c.index-codes-i.result c.index-codes-i.is c.loop-i-test.true (sym c.in-ok-fits.ensures ∙ c.if-not-branch.false)
+    ∙ unfit_more g.A.Code.model c.args.codes.now c.loop-i.i h c.args.columns c.index-codes-i.result c.index-codes-i.is c.loop-i-test.true (sym c.in_ok-fits.ensures ∙ c.if-not-branch.false)
 
 pub returns-then-codes-stages : goal.returns-then-codes-stages
 returns-then-codes-stages g c =

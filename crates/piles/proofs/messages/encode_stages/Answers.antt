@@ -10,46 +10,46 @@ use Rattle.pile_laws.proofs.Flat.{part_in}
 use Rattle.pile_laws.proofs.Scans.{bits_more, long_here, models_more, words_all, words_more}
 use Rattle.piles.proofs.messages.encode_stages.Goals as goal
 
-pub bits-of-bits-requires : goal.bits-of-bits-requires
-bits-of-bits-requires g c =
+pub bits_of-bits-requires : goal.bits_of-bits-requires
+bits_of-bits-requires g c =
     subst g.A.Code.sound (sym c.index-codes-k.is) (All-get_or g.A.Code.sound c.args.codes.now c.loop-k.k c.index-codes-k.result c.loop-k-test.true c.requires.codes.0)
 
-pub overflow-mul-start : goal.overflow-mul-start
-overflow-mul-start g c =
+pub overflow_mul-start : goal.overflow_mul-start
+overflow_mul-start g c =
     let room = part_in c.args.columns (length c.args.codes.now) c.loop-k.k c.loop-k-test.true in
     record { fits = omega (arith, room, c.requires.room) }
 
-pub slice-bounds-encode-stage-end : goal.slice-bounds-encode-stage-end
-slice-bounds-encode-stage-end g c =
+pub slice_bounds-encode_stage-end : goal.slice_bounds-encode_stage-end
+slice_bounds-encode_stage-end g c =
     let more = ap total_bits (models_more g.A.Code.model c.args.codes.now c.loop-k.k c.index-codes-k.result c.index-codes-k.is c.loop-k-test.true) in
-    let here : c.loop-k.at + c.bits-of-bits.result ≤ length c.args.message.now = omega (arith, more, c.loop-k.invariant.1, c.requires.message.0, c.bits-of-bits.ensures.value) in
+    let here : c.loop-k.at + c.bits_of-bits.result ≤ length c.args.message.now = omega (arith, more, c.loop-k.invariant.1, c.requires.message.0, c.bits_of-bits.ensures.value) in
     search rules
 
-pub overflow-add-start : goal.overflow-add-start
-overflow-add-start g c =
+pub overflow_add-start : goal.overflow_add-start
+overflow_add-start g c =
     let room = part_in c.args.columns (length c.args.codes.now) c.loop-k.k c.loop-k-test.true in
     record { fits = omega (arith, room, c.requires.room) }
 
-pub slice-bounds-encode-stage-end-in-loop-k : goal.slice-bounds-encode-stage-end-in-loop-k
-slice-bounds-encode-stage-end-in-loop-k g c =
+pub slice_bounds-encode_stage-end-in-loop-k : goal.slice_bounds-encode_stage-end-in-loop-k
+slice_bounds-encode_stage-end-in-loop-k g c =
     let room = part_in c.args.columns (length c.args.codes.now) c.loop-k.k c.loop-k-test.true in
     let here : c.args.columns * c.loop-k.k + c.args.columns ≤ length c.loop-k.words = omega (arith, room, c.requires.room, c.loop-k.auto.words) in
     search rules
 
-pub encode-stage-requires : goal.encode-stage-requires
-encode-stage-requires g c =
+pub encode_stage-requires : goal.encode_stage-requires
+encode_stage-requires g c =
     let model = g.A.Code.model in
     let codes = c.args.codes.now in
     let k = c.loop-k.k in
     let n = c.args.columns in
     let a = c.index-codes-k.result in
     let at = c.loop-k.at in
-    let bits = c.bits-of-bits.result in
+    let bits = c.bits_of-bits.result in
     let message = c.args.message.now in
     let sound = subst g.A.Code.sound (sym c.index-codes-k.is) (All-get_or g.A.Code.sound codes k a c.loop-k-test.true c.requires.codes.0) in
     let more = ap total_bits (models_more model codes k a c.index-codes-k.is c.loop-k-test.true) in
     let span : at + bits - at ≡ bits = omega arith in
-    let long : length (take (at + bits - at) (drop at message)) ≡ stage_bits (model a) = ap (λ (i : ℕ). length (take i (drop at message))) span ∙ length-take-le bits (drop at message) (omega (arith, more, length-drop at message, c.loop-k.invariant.1, c.requires.message.0, c.bits-of-bits.ensures.value)) ∙ c.bits-of-bits.ensures.value in
+    let long : length (take (at + bits - at) (drop at message)) ≡ stage_bits (model a) = ap (λ (i : ℕ). length (take i (drop at message))) span ∙ length-take-le bits (drop at message) (omega (arith, more, length-drop at message, c.loop-k.invariant.1, c.requires.message.0, c.bits_of-bits.ensures.value)) ∙ c.bits_of-bits.ensures.value in
     let room = part_in n (length codes) k c.loop-k-test.true in
     let width : n * k + n - n * k ≡ n = omega arith in
     let wide : length (take (n * k + n - n * k) (drop (n * k) c.loop-k.words)) ≡ n = ap (λ (i : ℕ). length (take i (drop (n * k) c.loop-k.words))) width ∙ length-take-le n (drop (n * k) c.loop-k.words) (omega (arith, length-drop (n * k) c.loop-k.words, room, c.requires.room, c.loop-k.auto.words)) in
@@ -63,10 +63,10 @@ loop-k-preserved g c =
     let n = c.args.columns in
     let a = c.index-codes-k.result in
     let at = c.loop-k.at in
-    let bits = c.bits-of-bits.result in
+    let bits = c.bits_of-bits.result in
     let message = c.args.message.now in
     let row = c.loop-k.words in
-    let ys = c.encode-stage.new.word in
+    let ys = c.encode_stage.new.word in
     let lk = c.loop-k-test.true in
     let is = c.index-codes-k.is in
     let span : at + bits - at ≡ bits = omega arith in
@@ -74,12 +74,12 @@ loop-k-preserved g c =
     let here = long_here model codes n k a is lk c.loop-k.invariant.2 in
     let room = part_in n (length codes) k lk in
     let part : length (take (n * k + n - n * k) (drop (n * k) row)) ≡ n = ap (λ (i : ℕ). length (take i (drop (n * k) row))) width ∙ length-take-le n (drop (n * k) row) (omega (arith, length-drop (n * k) row, room, c.requires.room, c.loop-k.auto.words)) in
-    let wide : length ys ≡ n = c.encode-stage.auto.word ∙ part in
+    let wide : length ys ≡ n = c.encode_stage.auto.word ∙ part in
     let m = model a in
-    let written : ys ≡ m.codeword (symbols m.width m.message_len (take bits (drop at message))) = c.in-ok-encode-stage.ensures ∙ ap (λ (i : ℕ). m.codeword (symbols m.width m.message_len (take i (drop at message)))) span in (
+    let written : ys ≡ m.codeword (symbols m.width m.message_len (take bits (drop at message))) = c.in_ok-encode_stage.ensures ∙ ap (λ (i : ℕ). m.codeword (symbols m.width m.message_len (take i (drop at message)))) span in (
       ap (λ (i : ℕ). words_in n (k + 1) (put_mid (n * k) i row ys) ++ stage_words (map model (drop (k + 1) codes)) (drop (at + bits) message)) width
-          ∙ words_more model codes n k a is lk message row ys at bits _ c.bits-of-bits.ensures.value (omega (arith, room, c.requires.room, c.loop-k.auto.words)) wide written c.loop-k.invariant.0,
-      bits_more model codes k a at _ bits is lk c.bits-of-bits.ensures.value c.loop-k.invariant.1,
+          ∙ words_more model codes n k a is lk message row ys at bits _ c.bits_of-bits.ensures.value (omega (arith, room, c.requires.room, c.loop-k.auto.words)) wide written c.loop-k.invariant.0,
+      bits_more model codes k a at _ bits is lk c.bits_of-bits.ensures.value c.loop-k.invariant.1,
       here.1,
     )
 

@@ -8,8 +8,8 @@ use Rattle.pile_laws.specs.Build.{symbols}
 use Rattle.pile_laws.proofs.Messages.{symbols_read, symbol_room}
 use Rattle.piles.proofs.messages.read_symbols.Goals as goal
 
-pub slice-bounds-spell-end : goal.slice-bounds-spell-end
-slice-bounds-spell-end c =
+pub slice_bounds-spell-end : goal.slice_bounds-spell-end
+slice_bounds-spell-end c =
     let room = symbol_room c.args.width (length c.args.symbols.now) c.loop-i.i c.loop-i-test.true in
     let long = c.requires.1.0 in
     search rules

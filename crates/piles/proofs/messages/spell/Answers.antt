@@ -4,13 +4,13 @@ use Rattle.chains.specs.Bits.{spelled}
 use Rattle.chains.specs.Spelling.{spelled_front, spelled_more}
 use Rattle.piles.proofs.messages.spell.Goals as goal
 
-pub overflow-mul-number : goal.overflow-mul-number
-overflow-mul-number c =
+pub overflow_mul-number : goal.overflow_mul-number
+overflow_mul-number c =
     let front = spelled_front c.args.bits.now c.loop-bit.bit-index 8 c.requires.1 (omega (arith, c.requires.0)) (omega arith) in
     record { fits = omega (arith, c.loop-bit.invariant, front) }
 
-pub overflow-add-number : goal.overflow-add-number
-overflow-add-number c =
+pub overflow_add-number : goal.overflow_add-number
+overflow_add-number c =
     let more = spelled_more c.args.bits.now c.loop-bit.bit-index c.loop-bit-test.true in
     let front = spelled_front c.args.bits.now (c.loop-bit.bit-index + 1) 8 c.requires.1 (omega (arith, c.requires.0)) (omega arith) in
     record { fits = omega (arith, c.loop-bit.invariant, more, front, c.from.ensures) }
@@ -18,8 +18,8 @@ overflow-add-number c =
 pub loop-bit-preserved : goal.loop-bit-preserved
 loop-bit-preserved c = omega (arith, c.loop-bit.invariant, spelled_more c.args.bits.now c.loop-bit.bit-index c.loop-bit-test.true, c.from.ensures)
 
-pub overflow-cast-result : goal.overflow-cast-result
-overflow-cast-result c =
+pub overflow_cast-result : goal.overflow_cast-result
+overflow_cast-result c =
     let front = spelled_front c.args.bits.now c.loop-bit.bit-index 8 c.requires.1 (omega (arith, c.requires.0)) (omega arith) in
     record { fits = omega (arith, c.loop-bit.invariant, front) }
 

@@ -10,8 +10,8 @@ bounds-codes-0 g c =
     let h = g.H.Chain.model c.args.chain.now in
     omega (arith, codes_many g.A.Code.model c.args.codes.now h c.requires.1.1, (g.met.H.Chain.lawful c.args.chain.now c.requires.0).some_stages)
 
-pub stage-reach-requires : goal.stage-reach-requires
-stage-reach-requires g c =
+pub stage_reach-requires : goal.stage_reach-requires
+stage_reach-requires g c =
     let h = g.H.Chain.model c.args.chain.now in
     let law = g.met.H.Chain.lawful c.args.chain.now c.requires.0 in
     let some : 0 < length c.args.codes.now = omega (arith, codes_many g.A.Code.model c.args.codes.now h c.requires.1.1, law.some_stages) in
@@ -23,10 +23,10 @@ loop-i-init g c =
     let h = g.H.Chain.model c.args.chain.now in
     let law = g.met.H.Chain.lawful c.args.chain.now c.requires.0 in
     let some : 0 < length c.args.codes.now = omega (arith, codes_many g.A.Code.model c.args.codes.now h c.requires.1.1, law.some_stages) in
-    reach_begun g.A.Code.model c.args.codes.now h c.index-codes-0.result c.in-ok-reach.reach c.index-codes-0.is some c.in-ok-reach.ensures
+    reach_begun g.A.Code.model c.args.codes.now h c.index-codes-0.result c.in_ok-reach.reach c.index-codes-0.is some c.in_ok-reach.ensures
 
-pub stage-reach-requires-in-loop-i : goal.stage-reach-requires-in-loop-i
-stage-reach-requires-in-loop-i g c =
+pub stage_reach-requires-in-loop-i : goal.stage_reach-requires-in-loop-i
+stage_reach-requires-in-loop-i g c =
     let h = g.H.Chain.model c.args.chain.now in
     let sound = subst g.A.Code.sound (sym c.index-codes-i.is) (All-get_or g.A.Code.sound c.args.codes.now c.loop-i.i c.index-codes-i.result c.loop-i-test.true c.requires.1.0) in
     (c.requires.0, (sound, (omega arith, omega (arith, codes_many g.A.Code.model c.args.codes.now h c.requires.1.1, c.loop-i-test.true))))
@@ -37,7 +37,7 @@ loop-i-preserved g c =
     let all = reach h (map g.A.Code.model c.args.codes.now) in
     let next : List CodeModel = map g.A.Code.model (drop (c.loop-i.i + 1) c.args.codes.now) in
     ap (λ (m : ℕ). least m (stage_reaches h (c.loop-i.i + 1 + 1) next)) c.lesser-reach.ensures
-    ∙ reach_more g.A.Code.model c.args.codes.now c.loop-i.i h c.index-codes-i.result c.loop-i.reach c.in-ok-stage-reach.field-0 all c.index-codes-i.is c.loop-i-test.true c.in-ok-stage-reach.ensures c.loop-i.invariant
+    ∙ reach_more g.A.Code.model c.args.codes.now c.loop-i.i h c.index-codes-i.result c.loop-i.reach c.in_ok-stage_reach.field-0 all c.index-codes-i.is c.loop-i-test.true c.in_ok-stage_reach.ensures c.loop-i.invariant
 
 pub returns : goal.returns
 returns g c =

@@ -52,7 +52,7 @@ returns-in-Ok g c =
     let parts = exact_parts h law cs laws c.requires.parts.2 word marks c.requires.word.1.0 lw n c.requires.columns.0 (length codes) all row c.find.new.found c.in-Ok.harm found.0 found.1 found.2 long in
     let inexact = inexact_word h law cs laws c.requires.parts.2 word marks c.requires.word.1.0 lw n c.requires.columns.0 (length codes) all row c.find.new.found c.in-Ok.harm found.0 found.1 found.2 long in
     let by : (r : Result (Unit {0}) Fault) → MatchResult r (λ _. c.in-Ok.harm ≡ 0) (λ f. (c.in-Ok.harm ≡ 0 → ⊥) × (f ≡ fault NoCodeword Code 0)) → Recognizes h cs n (length codes) word row r = λ r. elim r as (λ q. MatchResult q (λ _. c.in-Ok.harm ≡ 0) (λ f. (c.in-Ok.harm ≡ 0 → ⊥) × (f ≡ fault NoCodeword Code 0)) → Recognizes h cs n (length codes) word row q) [ Ok t ↦ λ none. (exact none, parts) | Err f ↦ λ some. (some.1, inexact some.0) ] in
-    by c.check-exact.result c.check-exact.ensures
+    by c.check_exact.result c.check_exact.ensures
 
 pub returns-in-Err : goal.returns-in-Err
 returns-in-Err g c =

@@ -5,8 +5,8 @@ use Rattle.piles.proofs.pile.recover.Goals as goal
 zeros : (k : ℕ) → k ≤ 4096 → take (k - 0) (replicate {A = ℕ} 4096 0) ≡ replicate k 0
 zeros k l = let same : k - 0 ≡ k = omega arith in ap (λ (i : ℕ). take i (replicate {A = ℕ} 4096 0)) same ∙ take-replicate k 4096 0 l
 
-pub recover-in-requires : goal.recover-in-requires
-recover-in-requires g c =
+pub recover_in-requires : goal.recover_in-requires
+recover_in-requires g c =
     let cells = length c.args.word.now in
     let bits = length c.args.message.now in
     record {

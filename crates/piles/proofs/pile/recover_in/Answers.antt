@@ -18,28 +18,28 @@ recognize-requires g c =
     let h = g.H.Chain.model c.args.chain.now in
     let cs : List CodeModel = map model codes in
     let fit = word_fits (pile h cs) c.args.message.now c.args.word.now c.requires.word.0 in
-    let cells : h.breadth * columns cs ≡ h.breadth * c.count-columns-columns.result = ap (λ (m : ℕ). h.breadth * m) (sym c.count-columns-columns.ensures.value) in
+    let cells : h.breadth * columns cs ≡ h.breadth * c.count_columns-columns.result = ap (λ (m : ℕ). h.breadth * m) (sym c.count_columns-columns.ensures.value) in
     record {
       parts = c.requires.parts;
-      columns = (c.count-columns-columns.ensures.value, c.count-columns-columns.ensures.bound);
+      columns = (c.count_columns-columns.ensures.value, c.count_columns-columns.ensures.bound);
       word = ((fit.0.0 ∙ cells, fit.0.1), (c.requires.word.1, (c.requires.room.0, c.requires.room.1.0)));
     }
 
-pub recover-stages-requires : goal.recover-stages-requires
-recover-stages-requires g c =
+pub recover_stages-requires : goal.recover_stages-requires
+recover_stages-requires g c =
     let model = g.A.Code.model in
     let codes = c.args.codes.now in
     let chain = c.args.chain.now in
     let h = g.H.Chain.model chain in
     let cs : List CodeModel = map model codes in
     let law = g.met.H.Chain.lawful chain c.requires.parts.0 in
-    let n = c.count-columns-columns.result in
+    let n = c.count_columns-columns.result in
     let few : length codes ≤ 5 = omega (arith, codes_many model codes h c.requires.parts.2, law.few_stages) in
-    let room = mul-le-mul {n₁ = n} {m₁ = length codes} {n₂ = 4096} {m₂ = 5} c.count-columns-columns.ensures.bound few in
+    let room = mul-le-mul {n₁ = n} {m₁ = length codes} {n₂ = 4096} {m₂ = 5} c.count_columns-columns.ensures.bound few in
     let fit = word_fits (pile h cs) c.args.message.now c.args.word.now c.requires.word.0 in
     record {
-      codes = (c.requires.parts.1, (few, subst (λ (m : ℕ). EachLong m cs) (sym c.count-columns-columns.ensures.value) (each_long h (columns cs) 1 cs (fitting h cs c.requires.parts.2).0)));
-      words = (omega (arith, room, c.requires.room.1.0, c.recognize.auto.words), c.in-ok-recognize.ensures.1);
+      codes = (c.requires.parts.1, (few, subst (λ (m : ℕ). EachLong m cs) (sym c.count_columns-columns.ensures.value) (each_long h (columns cs) 1 cs (fitting h cs c.requires.parts.2).0)));
+      words = (omega (arith, room, c.requires.room.1.0, c.recognize.auto.words), c.in_ok-recognize.ensures.1);
       room = c.requires.room.1.1 ∙ fit.1;
     }
 
@@ -51,10 +51,10 @@ returns g c =
     let cs : List CodeModel = map model codes in
     let word = c.args.word.now in
     let message = c.args.message.now in
-    let n = c.count-columns-columns.result in
+    let n = c.count_columns-columns.result in
     let row = c.recognize.new.words in
-    let found = c.in-ok-recover-stages.ensures in
+    let found = c.in_ok-recover_stages.ensures in
     let us = found.0 in
     let m = message_of_words h cs us found.1 in
-    let is : (pile h cs).codeword (joined_bits cs us) ≡ word = ap (laid h (columns cs)) (m.1 ∙ found.2) ∙ ap (λ (i : ℕ). laid h i (words_in n (length codes) row)) (sym c.count-columns-columns.ensures.value) ∙ c.in-ok-recognize.ensures.0 in
-    subst (λ (u : List ℕ). Recovered (pile h cs) word message u (Ok tt)) (sym (c.copy-from-slice.ensures.after ∙ found.3)) (recovered (pile h cs) word message (joined_bits cs us) c.requires.word.0 m.0 is)
+    let is : (pile h cs).codeword (joined_bits cs us) ≡ word = ap (laid h (columns cs)) (m.1 ∙ found.2) ∙ ap (λ (i : ℕ). laid h i (words_in n (length codes) row)) (sym c.count_columns-columns.ensures.value) ∙ c.in_ok-recognize.ensures.0 in
+    subst (λ (u : List ℕ). Recovered (pile h cs) word message u (Ok tt)) (sym (c.copy_from_slice.ensures.after ∙ found.3)) (recovered (pile h cs) word message (joined_bits cs us) c.requires.word.0 m.0 is)

@@ -19,20 +19,20 @@ find-requires g c =
     let chain = c.args.chain.now in
     let h = g.H.Chain.model chain in
     let law = g.met.H.Chain.lawful chain c.requires.parts.0 in
-    let n = c.count-columns-columns.result in
-    let cells : h.breadth * columns (map model codes) ≡ h.breadth * n = ap (λ (m : ℕ). h.breadth * m) (sym c.count-columns-columns.ensures.value) in
+    let n = c.count_columns-columns.result in
+    let cells : h.breadth * columns (map model codes) ≡ h.breadth * n = ap (λ (m : ℕ). h.breadth * m) (sym c.count_columns-columns.ensures.value) in
     let few : length codes ≤ 5 = omega (arith, codes_many model codes h c.requires.parts.2, law.few_stages) in
-    let room = mul-le-mul {n₁ = n} {m₁ = length codes} {n₂ = 4096} {m₂ = 5} c.count-columns-columns.ensures.bound few in
+    let room = mul-le-mul {n₁ = n} {m₁ = length codes} {n₂ = 4096} {m₂ = 5} c.count_columns-columns.ensures.bound few in
     let fit = damage_fits (pile h (map model codes)) c.args.word.now c.args.marks.now c.requires.word.0 in
     record {
       parts = c.requires.parts;
-      columns = (c.count-columns-columns.ensures.value, c.count-columns-columns.ensures.bound);
+      columns = (c.count_columns-columns.ensures.value, c.count_columns-columns.ensures.bound);
       word = (((fit.0.0 ∙ cells, fit.0.1), (fit.1.0 ∙ cells, fit.1.1)), c.requires.word.1.0);
       room = omega (arith, room, c.requires.word.1.1);
     }
 
-pub returns-in-err-harm : goal.returns-in-err-harm
-returns-in-err-harm g c =
+pub returns-in_err-harm : goal.returns-in_err-harm
+returns-in_err-harm g c =
     let model = g.A.Code.model in
     let codes = c.args.codes.now in
     let chain = c.args.chain.now in
@@ -43,8 +43,8 @@ returns-in-err-harm g c =
     let marks = c.args.marks.now in
     let none = c.requires.word.0 in
     let fit = damage_fits (pile h cs) word marks none in
-    let refused = c.in-err-harm.ensures in
-    rw (raised c.from-residual.result c.from-residual.ensures.1)
+    let refused = c.in_err-harm.ensures in
+    rw (raised c.from_residual.result c.from_residual.ensures.1)
     (subst (λ (f : Fault). Corrected (pile h cs) word marks word (Err f)) (sym refused.2) (pile_refuses h (g.met.H.Chain.lawful chain c.requires.parts.0) cs laws c.requires.parts.2 word marks fit.0.0 fit.1.0 none refused.0 refused.1))
 
 pub returns : goal.returns
@@ -59,9 +59,9 @@ returns g c =
     let marks = c.args.marks.now in
     let none = c.requires.word.0 in
     let fit = damage_fits (pile h cs) word marks none in
-    let found = c.in-ok-harm.ensures in
-    let n = c.count-columns-columns.result in
+    let found = c.in_ok-harm.ensures in
+    let n = c.count_columns-columns.result in
     let words = words_in n (length codes) c.find.new.words in
     let all : length words ≡ length cs = length_words_in n (length codes) c.find.new.words ∙ sym (length_models model codes) in
-    let is : c.find.new.found ≡ laid h (columns cs) words = found.1 ∙ ap (λ (m : ℕ). laid h m words) c.count-columns-columns.ensures.value in
-    subst (λ (w : List ℕ). Corrected (pile h cs) word marks w (Ok c.in-ok-harm.harm)) (sym c.copy-from-slice.ensures.after) (pile_answers h (g.met.H.Chain.lawful chain c.requires.parts.0) cs laws c.requires.parts.2 word marks fit.0.0 fit.1.0 none words c.find.new.found c.in-ok-harm.harm all found.0 is found.2 found.3)
+    let is : c.find.new.found ≡ laid h (columns cs) words = found.1 ∙ ap (λ (m : ℕ). laid h m words) c.count_columns-columns.ensures.value in
+    subst (λ (w : List ℕ). Corrected (pile h cs) word marks w (Ok c.in_ok-harm.harm)) (sym c.copy_from_slice.ensures.after) (pile_answers h (g.met.H.Chain.lawful chain c.requires.parts.0) cs laws c.requires.parts.2 word marks fit.0.0 fit.1.0 none words c.find.new.found c.in_ok-harm.harm all found.0 is found.2 found.3)

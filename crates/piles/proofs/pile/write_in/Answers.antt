@@ -10,25 +10,25 @@ use Rattle.pile_laws.proofs.Fitting.{each_long, fitting}
 use Rattle.pile_laws.proofs.Scans.{codes_many, each_lawful}
 use Rattle.piles.proofs.pile.write_in.Goals as goal
 
-pub encode-stages-requires : goal.encode-stages-requires
-encode-stages-requires g c =
+pub encode_stages-requires : goal.encode_stages-requires
+encode_stages-requires g c =
     let model = g.A.Code.model in
     let codes = c.args.codes.now in
     let chain = c.args.chain.now in
     let h = g.H.Chain.model chain in
     let cs : List CodeModel = map model codes in
     let law = g.met.H.Chain.lawful chain c.requires.parts.0 in
-    let n = c.count-columns-columns.result in
+    let n = c.count_columns-columns.result in
     let few : length codes ≤ 5 = omega (arith, codes_many model codes h c.requires.parts.2, law.few_stages) in
-    let room = mul-le-mul {n₁ = n} {m₁ = length codes} {n₂ = 4096} {m₂ = 5} c.count-columns-columns.ensures.bound few in
+    let room = mul-le-mul {n₁ = n} {m₁ = length codes} {n₂ = 4096} {m₂ = 5} c.count_columns-columns.ensures.bound few in
     record {
-      codes = (c.requires.parts.1, (few, subst (λ (m : ℕ). EachLong m cs) (sym c.count-columns-columns.ensures.value) (each_long h (columns cs) 1 cs (fitting h cs c.requires.parts.2).0)));
+      codes = (c.requires.parts.1, (few, subst (λ (m : ℕ). EachLong m cs) (sym c.count_columns-columns.ensures.value) (each_long h (columns cs) 1 cs (fitting h cs c.requires.parts.2).0)));
       message = (c.requires.message.0, c.requires.message.1);
       room = omega (arith, room, c.requires.word.1);
     }
 
-pub lay-columns-requires : goal.lay-columns-requires
-lay-columns-requires g c =
+pub lay_columns-requires : goal.lay_columns-requires
+lay_columns-requires g c =
     let model = g.A.Code.model in
     let codes = c.args.codes.now in
     let chain = c.args.chain.now in
@@ -37,12 +37,12 @@ lay-columns-requires g c =
     let law = g.met.H.Chain.lawful chain c.requires.parts.0 in
     let laws = each_lawful model g.A.Code.sound codes g.met.A.Code.lawful c.requires.parts.1 in
     let many = codes_many model codes h c.requires.parts.2 in
-    let n = c.count-columns-columns.result in
-    let value = c.count-columns-columns.ensures.value in
-    let room = mul-le-mul {n₁ = n} {m₁ = h.stages} {n₂ = 4096} {m₂ = 5} c.count-columns-columns.ensures.bound law.few_stages in
-    let row = c.encode-stages.new.words in
-    let words_are : words_in n h.stages row ≡ stage_words cs c.args.message.now = ap (λ (s : ℕ). words_in n s row) (sym many) ∙ c.in-ok-encode-stages.ensures in
-    (c.requires.parts.0, (omega (arith, room, c.requires.word.1, c.encode-stages.auto.words), (c.requires.word.0 ∙ ap (λ (m : ℕ). h.breadth * m) (sym value), λ j l. subst (λ (ws : List (List ℕ)). Row h (labels_at ws j)) (sym words_are) (rows_encoded h law cs laws c.requires.parts.2 c.args.message.now c.requires.message j (omega (arith, value))))))
+    let n = c.count_columns-columns.result in
+    let value = c.count_columns-columns.ensures.value in
+    let room = mul-le-mul {n₁ = n} {m₁ = h.stages} {n₂ = 4096} {m₂ = 5} c.count_columns-columns.ensures.bound law.few_stages in
+    let row = c.encode_stages.new.words in
+    let words_are : words_in n h.stages row ≡ stage_words cs c.args.message.now = ap (λ (s : ℕ). words_in n s row) (sym many) ∙ c.in_ok-encode_stages.ensures in
+    (c.requires.parts.0, (omega (arith, room, c.requires.word.1, c.encode_stages.auto.words), (c.requires.word.0 ∙ ap (λ (m : ℕ). h.breadth * m) (sym value), λ j l. subst (λ (ws : List (List ℕ)). Row h (labels_at ws j)) (sym words_are) (rows_encoded h law cs laws c.requires.parts.2 c.args.message.now c.requires.message j (omega (arith, value))))))
 
 pub returns : goal.returns
 returns g c =
@@ -51,8 +51,8 @@ returns g c =
     let h = g.H.Chain.model c.args.chain.now in
     let cs : List CodeModel = map model codes in
     let many = codes_many model codes h c.requires.parts.2 in
-    let n = c.count-columns-columns.result in
-    let value = c.count-columns-columns.ensures.value in
-    let row = c.encode-stages.new.words in
-    let words_are : words_in n h.stages row ≡ stage_words cs c.args.message.now = ap (λ (s : ℕ). words_in n s row) (sym many) ∙ c.in-ok-encode-stages.ensures in
-    cases_with c.lay-columns.result _ _ (λ _ e. e ∙ ap (laid h n) words_are ∙ ap (λ (m : ℕ). laid h m (stage_words cs c.args.message.now)) value) c.lay-columns.ensures
+    let n = c.count_columns-columns.result in
+    let value = c.count_columns-columns.ensures.value in
+    let row = c.encode_stages.new.words in
+    let words_are : words_in n h.stages row ≡ stage_words cs c.args.message.now = ap (λ (s : ℕ). words_in n s row) (sym many) ∙ c.in_ok-encode_stages.ensures in
+    cases_with c.lay_columns.result _ _ (λ _ e. e ∙ ap (laid h n) words_are ∙ ap (λ (m : ℕ). laid h m (stage_words cs c.args.message.now)) value) c.lay_columns.ensures

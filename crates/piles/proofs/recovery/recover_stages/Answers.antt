@@ -12,41 +12,41 @@ use Rattle.piles.proofs.recovery.recover_stages.Goals as goal
 pub loop-k-init : goal.loop-k-init
 loop-k-init g c = (([], tt, refl, refl), omega arith, c.requires.codes.1.1)
 
-pub bits-of-count-requires : goal.bits-of-count-requires
-bits-of-count-requires g c =
+pub bits_of-count-requires : goal.bits_of-count-requires
+bits_of-count-requires g c =
     subst g.A.Code.sound (sym c.index-codes-k.is) (All-get_or g.A.Code.sound c.args.codes.now c.loop-k.k c.index-codes-k.result c.loop-k-test.true c.requires.codes.0)
 
-pub overflow-mul-start : goal.overflow-mul-start
-overflow-mul-start g c =
+pub overflow_mul-start : goal.overflow_mul-start
+overflow_mul-start g c =
     let room = part_in c.args.columns (length c.args.codes.now) c.loop-k.k c.loop-k-test.true in
     record { fits = omega (arith, room, c.requires.words.0) }
 
-pub overflow-add-start : goal.overflow-add-start
-overflow-add-start g c =
+pub overflow_add-start : goal.overflow_add-start
+overflow_add-start g c =
     let room = part_in c.args.columns (length c.args.codes.now) c.loop-k.k c.loop-k-test.true in
     record { fits = omega (arith, room, c.requires.words.0) }
 
-pub slice-bounds-recover-stage-end : goal.slice-bounds-recover-stage-end
-slice-bounds-recover-stage-end g c =
+pub slice_bounds-recover_stage-end : goal.slice_bounds-recover_stage-end
+slice_bounds-recover_stage-end g c =
     let room = part_in c.args.columns (length c.args.codes.now) c.loop-k.k c.loop-k-test.true in
     let here : c.args.columns * c.loop-k.k + c.args.columns ≤ length c.args.words.now = omega (arith, room, c.requires.words.0) in
     search rules
 
-pub slice-bounds-recover-stage-end-in-loop-k : goal.slice-bounds-recover-stage-end-in-loop-k
-slice-bounds-recover-stage-end-in-loop-k g c =
+pub slice_bounds-recover_stage-end-in-loop-k : goal.slice_bounds-recover_stage-end-in-loop-k
+slice_bounds-recover_stage-end-in-loop-k g c =
     let more = ap total_bits (models_more g.A.Code.model c.args.codes.now c.loop-k.k c.index-codes-k.result c.index-codes-k.is c.loop-k-test.true) in
-    let here : c.loop-k.at + c.bits-of-count.result ≤ length c.loop-k.bits = omega (arith, more, c.loop-k.invariant.1, c.loop-k.auto.bits, c.requires.room, c.bits-of-count.ensures.value) in
+    let here : c.loop-k.at + c.bits_of-count.result ≤ length c.loop-k.bits = omega (arith, more, c.loop-k.invariant.1, c.loop-k.auto.bits, c.requires.room, c.bits_of-count.ensures.value) in
     search rules
 
-pub recover-stage-requires : goal.recover-stage-requires
-recover-stage-requires g c =
+pub recover_stage-requires : goal.recover_stage-requires
+recover_stage-requires g c =
     let model = g.A.Code.model in
     let codes = c.args.codes.now in
     let k = c.loop-k.k in
     let n = c.args.columns in
     let a = c.index-codes-k.result in
     let at = c.loop-k.at in
-    let count = c.bits-of-count.result in
+    let count = c.bits_of-count.result in
     let bits = c.loop-k.bits in
     let words = c.args.words.now in
     let is = c.index-codes-k.is in
@@ -56,7 +56,7 @@ recover-stage-requires g c =
     let of = encoded_here model codes n k a is lk words (c.requires.words.1 k lk) in
     let more = ap total_bits (models_more model codes k a is lk) in
     let span : at + count - at ≡ count = omega arith in
-    let long = ap (λ (i : ℕ). length (take i (drop at bits))) span ∙ length-take-le count (drop at bits) (omega (arith, more, length-drop at bits, c.loop-k.invariant.1, c.loop-k.auto.bits, c.requires.room, c.bits-of-count.ensures.value)) ∙ c.bits-of-count.ensures.value in
+    let long = ap (λ (i : ℕ). length (take i (drop at bits))) span ∙ length-take-le count (drop at bits) (omega (arith, more, length-drop at bits, c.loop-k.invariant.1, c.loop-k.auto.bits, c.requires.room, c.bits_of-count.ensures.value)) ∙ c.bits_of-count.ensures.value in
     (sound, ((of.0, of.1, of.2 ∙ ap (λ (i : ℕ). take i (drop (n * k) words)) width), long))
 
 pub loop-k-preserved : goal.loop-k-preserved
@@ -67,20 +67,20 @@ loop-k-preserved g c =
     let n = c.args.columns in
     let a = c.index-codes-k.result in
     let at = c.loop-k.at in
-    let count = c.bits-of-count.result in
+    let count = c.bits_of-count.result in
     let bits = c.loop-k.bits in
     let words = c.args.words.now in
-    let ys = c.recover-stage.new.bits in
+    let ys = c.recover_stage.new.bits in
     let is = c.index-codes-k.is in
     let lk = c.loop-k-test.true in
     let width : n * k + n - n * k ≡ n = omega arith in
     let span : at + count - at ≡ count = omega arith in
     let more = ap total_bits (models_more model codes k a is lk) in
-    let part : length (take (at + count - at) (drop at bits)) ≡ count = ap (λ (i : ℕ). length (take i (drop at bits))) span ∙ length-take-le count (drop at bits) (omega (arith, more, length-drop at bits, c.loop-k.invariant.1, c.loop-k.auto.bits, c.requires.room, c.bits-of-count.ensures.value)) in
-    let found = c.in-ok-recover-stage.ensures in
+    let part : length (take (at + count - at) (drop at bits)) ≡ count = ap (λ (i : ℕ). length (take i (drop at bits))) span ∙ length-take-le count (drop at bits) (omega (arith, more, length-drop at bits, c.loop-k.invariant.1, c.loop-k.auto.bits, c.requires.room, c.bits_of-count.ensures.value)) in
+    let found = c.in_ok-recover_stage.ensures in
     let same : (model a).codeword found.0 ≡ take n (drop (n * k) words) = found.2 ∙ ap (λ (i : ℕ). take i (drop (n * k) words)) width in
-    let next = recovered_more model codes n k a is lk words at count bits ys (omega (arith, c.loop-k.invariant.1, c.loop-k.auto.bits, c.requires.room)) (c.recover-stage.auto.bits ∙ part) (found.0, found.1, same, found.3) c.loop-k.invariant.0 in
-    (subst (λ (i : ℕ). MessagesOf (map model (take (k + 1) codes)) (words_in n (k + 1) words) (take (at + count) (put_mid at i bits ys))) (sym span) next, bits_more model codes k a at _ count is lk c.bits-of-count.ensures.value c.loop-k.invariant.1, (long_here model codes n k a is lk c.loop-k.invariant.2).1)
+    let next = recovered_more model codes n k a is lk words at count bits ys (omega (arith, c.loop-k.invariant.1, c.loop-k.auto.bits, c.requires.room)) (c.recover_stage.auto.bits ∙ part) (found.0, found.1, same, found.3) c.loop-k.invariant.0 in
+    (subst (λ (i : ℕ). MessagesOf (map model (take (k + 1) codes)) (words_in n (k + 1) words) (take (at + count) (put_mid at i bits ys))) (sym span) next, bits_more model codes k a at _ count is lk c.bits_of-count.ensures.value c.loop-k.invariant.1, (long_here model codes n k a is lk c.loop-k.invariant.2).1)
 
 pub returns : goal.returns
 returns g c =

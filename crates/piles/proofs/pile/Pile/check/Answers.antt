@@ -1,11 +1,10 @@
 use Rattle.std.proofs.Common.{◌≡◌, List, map, take, IfOk, Ok, Err, Result, subst}
 use Rattle.words.specs.declared.fault.Fault.{Fault}
 use Rattle.codes.specs.Model.{CodeModel, Lawful}
-use Rattle.codes.specs.Promises.{Sound-or-refused}
 use Rattle.pile_laws.specs.Pile.{pile}
 use Rattle.pile_laws.proofs.Law.{pile_lawful}
 use Rattle.pile_laws.proofs.Scans.{each_lawful}
-use Rattle.piles.specs.Sound.{RefusesPile, SoundPile}
+use Rattle.piles.specs.Sound.{SoundOrRefused, RefusesPile, SoundPile}
 use Rattle.piles.proofs.pile.Pile.check.Goals as goal
 
 pub returns : goal.returns
@@ -18,6 +17,6 @@ returns g c =
     let S = g.H.Chain.sound self.chain in
     let Sound = SoundPile S h model sound in
     let Refuses = RefusesPile S h model sound g.A.Code.refuses in
-    let checked : Sound-or-refused (Sound codes) (Refuses codes) c.check-parts.result = subst (λ xs. Sound-or-refused (Sound xs) (Refuses xs) c.check-parts.result) c.codes.ensures c.check-parts.ensures in
-    let law : (r : Result (Unit {0}) Fault) → Sound-or-refused (Sound codes) (Refuses codes) r → IfOk r (λ _. Lawful (pile h (map model codes))) = λ r. elim r as (λ q. Sound-or-refused (Sound codes) (Refuses codes) q → IfOk q (λ _. Lawful (pile h (map model codes)))) [ Ok t ↦ λ s. pile_lawful h (g.met.H.Chain.lawful self.chain s.0) (map model codes) (each_lawful model sound codes g.met.A.Code.lawful s.1) s.2 | Err f ↦ λ _. tt ] in
-    record { sound = checked; lawful = law c.check-parts.result checked }
+    let checked : SoundOrRefused (Sound codes) (Refuses codes) c.check_parts.result = subst (λ xs. SoundOrRefused (Sound xs) (Refuses xs) c.check_parts.result) c.codes.ensures c.check_parts.ensures in
+    let law : (r : Result (Unit {0}) Fault) → SoundOrRefused (Sound codes) (Refuses codes) r → IfOk r (λ _. Lawful (pile h (map model codes))) = λ r. elim r as (λ q. SoundOrRefused (Sound codes) (Refuses codes) q → IfOk q (λ _. Lawful (pile h (map model codes)))) [ Ok t ↦ λ s. pile_lawful h (g.met.H.Chain.lawful self.chain s.0) (map model codes) (each_lawful model sound codes g.met.A.Code.lawful s.1) s.2 | Err f ↦ λ _. tt ] in
+    record { sound = checked; lawful = law c.check_parts.result checked }

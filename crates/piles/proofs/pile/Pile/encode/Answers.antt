@@ -10,16 +10,16 @@ use Rattle.pile_laws.proofs.Scans.{codes_many}
 use Rattle.piles.specs.Sound.{SoundPile}
 use Rattle.piles.proofs.pile.Pile.encode.Goals as goal
 
-pub count-bits-requires : goal.count-bits-requires
-count-bits-requires g c =
+pub count_bits-requires : goal.count_bits-requires
+count_bits-requires g c =
     let self = c.args.self.now in
-    let s = c.in-ok-check.ensures.sound in
+    let s = c.in_ok-check.ensures.sound in
     let codes = take self.used self.stages in
     let h = g.H.Chain.model self.chain in
     (subst (All g.A.Code.sound) (sym c.codes-codes.ensures) s.1, omega (arith, ap length c.codes-codes.ensures, codes_many g.A.Code.model codes h s.2, (g.met.H.Chain.lawful self.chain s.0).few_stages))
 
-pub write-codeword-requires : goal.write-codeword-requires
-write-codeword-requires g c =
+pub write_codeword-requires : goal.write_codeword-requires
+write_codeword-requires g c =
     let self = c.args.self.now in
     let model = g.A.Code.model in
     let h = g.H.Chain.model self.chain in
@@ -27,10 +27,10 @@ write-codeword-requires g c =
     let message = c.args.message.now in
     let word = c.args.word.now in
     let cs : List CodeModel = map model codes in
-    let none : refusal Code (values_below 2 (pile h cs).message_len message ∷ written_to (pile h cs).len word ∷ []) ≡ None = subst₂ (λ (k n : ℕ). refusal Code (values_below 2 k message ∷ written_to n word ∷ []) ≡ None) c.count-bits.ensures c.count-cells.ensures.value (checked_ok _ c.in-ok-check-encode.ensures) in
+    let none : refusal Code (values_below 2 (pile h cs).message_len message ∷ written_to (pile h cs).len word ∷ []) ≡ None = subst₂ (λ (k n : ℕ). refusal Code (values_below 2 k message ∷ written_to n word ∷ []) ≡ None) c.count_bits.ensures c.count_cells.ensures.value (checked_ok _ c.in_ok-check_encode.ensures) in
     let fit = message_fits (pile h cs) message word none in
     record {
-      parts = subst (SoundPile (g.H.Chain.sound self.chain) h model g.A.Code.sound) (sym c.codes-codes.ensures) c.in-ok-check.ensures.sound;
+      parts = subst (SoundPile (g.H.Chain.sound self.chain) h model g.A.Code.sound) (sym c.codes-codes.ensures) c.in_ok-check.ensures.sound;
       message = fit.0;
       word = fit.1;
     }

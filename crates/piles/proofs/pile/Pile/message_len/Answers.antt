@@ -3,8 +3,8 @@ use Rattle.std.specs.List.{AllByRecursion as All}
 use Rattle.pile_laws.proofs.Scans.{codes_many}
 use Rattle.piles.proofs.pile.Pile.message_len.Goals as goal
 
-pub count-bits-requires : goal.count-bits-requires
-count-bits-requires g c =
+pub count_bits-requires : goal.count_bits-requires
+count_bits-requires g c =
     let self = c.args.self.now in
     let s = c.in-Ok.ensures.sound in
     let codes = take self.used self.stages in

@@ -12,10 +12,10 @@ use Rattle.pile_laws.proofs.Scans.{codes_many, each_lawful}
 use Rattle.piles.specs.Sound.{SoundPile}
 use Rattle.piles.proofs.pile.Pile.message_of.Goals as goal
 
-pub count-bits-requires : goal.count-bits-requires
-count-bits-requires g c =
+pub count_bits-requires : goal.count_bits-requires
+count_bits-requires g c =
     let self = c.args.self.now in
-    let s = c.in-ok-check.ensures.sound in
+    let s = c.in_ok-check.ensures.sound in
     let codes = take self.used self.stages in
     let h = g.H.Chain.model self.chain in
     (subst (All g.A.Code.sound) (sym c.codes-codes.ensures) s.1, omega (arith, ap length c.codes-codes.ensures, codes_many g.A.Code.model codes h s.2, (g.met.H.Chain.lawful self.chain s.0).few_stages))
@@ -29,8 +29,8 @@ recover-requires g c =
     let message = c.args.message.now in
     let word = c.args.word.now in
     let cs : List CodeModel = map model codes in
-    let parts = subst (SoundPile (g.H.Chain.sound self.chain) h model g.A.Code.sound) (sym c.codes-codes.ensures) c.in-ok-check.ensures.sound in
-    let none : refusal Code (written_to (pile h cs).message_len message ∷ values_below 2 (pile h cs).len word ∷ []) ≡ None = subst₂ (λ (k n : ℕ). refusal Code (written_to k message ∷ values_below 2 n word ∷ []) ≡ None) c.count-bits.ensures c.count-cells.ensures.value (checked_ok _ c.in-ok-check-message-of.ensures) in
+    let parts = subst (SoundPile (g.H.Chain.sound self.chain) h model g.A.Code.sound) (sym c.codes-codes.ensures) c.in_ok-check.ensures.sound in
+    let none : refusal Code (written_to (pile h cs).message_len message ∷ values_below 2 (pile h cs).len word ∷ []) ≡ None = subst₂ (λ (k n : ℕ). refusal Code (written_to k message ∷ values_below 2 n word ∷ []) ≡ None) c.count_bits.ensures c.count_cells.ensures.value (checked_ok _ c.in_ok-check_message_of.ensures) in
     let fit = word_fits (pile h cs) message word none in
     let law = pile_lawful h (g.met.H.Chain.lawful self.chain parts.0) cs (each_lawful model g.A.Code.sound codes g.met.A.Code.lawful parts.1) parts.2 in
     record {

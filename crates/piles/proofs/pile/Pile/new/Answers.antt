@@ -5,26 +5,26 @@ use Rattle.piles.proofs.pile.Pile.new.Goals as goal
 
 pub bounds-codes-0 : goal.bounds-codes-0
 bounds-codes-0 g c =
-    let s = c.in-ok-check-parts.ensures in
+    let s = c.in_ok-check_parts.ensures in
     let h = g.H.Chain.model c.args.chain in
     let some : 0 < length c.args.codes.now = omega (arith, codes_many g.A.Code.model c.args.codes.now h s.2, (g.met.H.Chain.lawful c.args.chain s.0).some_stages) in
     search rules
 
 pub listed : goal.listed
 listed g c =
-    let s = c.in-ok-check-parts.ensures in
+    let s = c.in_ok-check_parts.ensures in
     let h = g.H.Chain.model c.args.chain in
     omega (arith, c.loop-i.invariant.1, c.loop-i-test.true, codes_many g.A.Code.model c.args.codes.now h s.2, (g.met.H.Chain.lawful c.args.chain s.0).few_stages)
 
 pub bounds-stages-i : goal.bounds-stages-i
 bounds-stages-i g c =
-    let s = c.in-ok-check-parts.ensures in
+    let s = c.in_ok-check_parts.ensures in
     let h = g.H.Chain.model c.args.chain in
     omega (arith, c.loop-i-test.true, codes_many g.A.Code.model c.args.codes.now h s.2, (g.met.H.Chain.lawful c.args.chain s.0).few_stages)
 
 pub loop-i-preserved : goal.loop-i-preserved
 loop-i-preserved g c =
-    let s = c.in-ok-check-parts.ensures in
+    let s = c.in_ok-check_parts.ensures in
     let h = g.H.Chain.model c.args.chain in
     let i = c.loop-i.i in
     let a = c.index-codes-i.result in
@@ -36,4 +36,4 @@ pub returns : goal.returns
 returns g c =
     let codes = c.args.codes.now in
     let all : c.loop-i.i ≡ length codes = omega (arith, c.loop-i.auto.i-end, c.loop-i-test.false) in
-    (c.in-ok-check-parts.ensures, refl, ap (λ (m : ℕ). take m c.loop-i.stages) (sym all) ∙ c.loop-i.invariant.0 ∙ take_all c.loop-i.i codes c.loop-i-test.false)
+    (c.in_ok-check_parts.ensures, refl, ap (λ (m : ℕ). take m c.loop-i.stages) (sym all) ∙ c.loop-i.invariant.0 ∙ take_all c.loop-i.i codes c.loop-i-test.false)
