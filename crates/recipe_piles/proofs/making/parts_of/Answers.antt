@@ -11,8 +11,8 @@ use Rattle.recipe_piles.specs.Parts.{RecipeChain, StageCode}
 use Rattle.recipe_piles.proofs.Answering.{parts_of}
 use Rattle.recipe_piles.proofs.making.parts_of.Goals as goal
 
-pub make-codes-requires : goal.make-codes-requires
-make-codes-requires c =
+pub make_codes-requires : goal.make_codes-requires
+make_codes-requires c =
     let t = c.args.recipe.now.table in
     let h = c.args.recipe.now.lawful in
     subst (λ (ss : List Stage). All Makeable ss × ((0 < length ss) × (length ss ≤ 5))) (sym c.stages-stages.ensures) (all_makeable t h, (some_used t h, few_used t h))
@@ -25,7 +25,7 @@ new-requires c =
 pub returns : goal.returns
 returns c =
     let t = c.args.recipe.now.table in
-    let have = subst (λ (ss : List Stage). StagesHave ss (take (length c.stages-stages.result.now) c.in-ok-codes.codes)) c.stages-stages.ensures c.in-ok-codes.ensures in
+    let have = subst (λ (ss : List Stage). StagesHave ss (take (length c.stages-stages.result.now) c.in_ok-codes.codes)) c.stages-stages.ensures c.in_ok-codes.ensures in
     parts_of t c.args.recipe.now.lawful c.new.result
-    (subst (λ (h : RecipeChain). IsChain (named_chain t.chain) h) (sym c.new.ensures.chain) c.in-ok-chain.ensures)
+    (subst (λ (h : RecipeChain). IsChain (named_chain t.chain) h) (sym c.new.ensures.chain) c.in_ok-chain.ensures)
     (subst (λ (cs : List StageCode). StagesHave (used_stages t) cs) (sym c.new.ensures.codes) have)

@@ -4,4 +4,4 @@ use Rattle.recipe_piles.proofs.making.pile_of.Goals as goal
 
 pub returns : goal.returns
 returns c =
-    pile_made c.args.recipe.now.table code_refuses c.in-ok-parts.parts c.codes.result.now c.in-ok-parts.ensures c.codes.ensures c.new.result c.new.ensures
+    pile_made c.args.recipe.now.table code_refuses c.in_ok-parts.parts c.codes.result.now c.in_ok-parts.ensures c.codes.ensures c.new.result c.new.ensures
