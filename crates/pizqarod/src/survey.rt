@@ -62,7 +62,7 @@ impl Survey {
 
     /// The table: accepted recipes by reach and then bytes, then the refused ones as they came.
     pub(crate) fn table(&mut self, heap: Global) -> Result<String, AllocError> {
-        self.rows.sort();
+        self.rows.sort()?;
         let mut out = String::from_str(heap, "reach  bytes   bits  cells  recipe\n")?;
         for row in self.rows.iter() {
             let Row {

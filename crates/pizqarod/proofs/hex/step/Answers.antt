@@ -4,8 +4,8 @@ use Rattle.pizqarod.proofs.Prefixes.{front_more}
 use Rattle.pizqarod.proofs.hex.step.Goals as goal
 
 -- the second digit of a byte
-pub returns-in-ok-push : goal.returns-in-ok-push
-returns-in-ok-push c =
+pub returns-in_ok-push-in-Some-high : goal.returns-in_ok-push-in-Some-high
+returns-in_ok-push-in-Some-high c =
     let front = vec_items c.args.bytes.now in
     let b = c.args.b in
     let high = c.args.high.now in
@@ -13,7 +13,7 @@ returns-in-ok-push c =
     let low = c.in-Some.low in
     let nib : nibble b ≡ Some low = sym c.in-Some.ensures in
     let waits : high ≡ Some h = c.in-Some-high.is in
-    let pushed : vec_items c.push.new.self ≡ front ++ (16 * h + low) ∷ [] = c.push.ensures.items ∙ ap (λ r. cond (is_ok r) (front ++ (16 * h + low) ∷ []) front) c.in-ok-push.was in (
+    let pushed : vec_items c.push.new.self ≡ front ++ (16 * h + low) ∷ [] = c.push.ensures.items ∙ ap (λ r. cond (is_ok r) (front ++ (16 * h + low) ∷ []) front) c.in_ok-push-in-Some-high.was in (
       tt,
       λ cs.
           ap (λ space. with_front front (cond space (hex_bytes cs high) (with_digit high (nibble b) (hex_bytes cs)))) (ne_eqb b 32 c.if-b-eq32.false)
