@@ -1,5 +1,5 @@
 -- Which of several refusals is due: the first. Assumes nothing.
-use Rattle.std.proofs.Common.{◌≡◌, ℕ, List, length, Some, None, Ok, Err, Option, Result, sym, refl, ap, ◌∙◌, ap₂, arith}
+use Rattle.std.proofs.Common.{◌≡◌, ℕ, List, length, Some, None, Ok, Err, Option, Result, sym, ap, ◌∙◌, ap₂, arith}
 use Rattle.words.specs.declared.fault.Fault.{Fault}
 use Rattle.words.specs.Buffers.{either, checked}
 use Rattle.words.proofs.Rises.{checked_ok}

@@ -1,16 +1,15 @@
 -- The estimates of the even chain: the one word that a reading can lie near. Assumes nothing.
-use Rattle.std.proofs.Common.{◌≡◌, ℕ, zero, suc, ◌+◌, ◌-◌, ◌*◌, ◌%◌, ◌^◌, ◌<◌, ◌≤◌, Bool, true, false, cond, eqb, ◌⊎◌, List, [], ◌∷◌, ◌++◌, length, get_or, take, Some, None, sym, refl, ap, ◌∙◌, subst, ap₂, ⊎_elim, arith}
+use Rattle.std.proofs.Common.{◌≡◌, ℕ, zero, suc, ◌+◌, ◌-◌, ◌%◌, ◌^◌, ◌<◌, ◌≤◌, Bool, true, false, cond, eqb, ◌⊎◌, List, [], ◌∷◌, ◌++◌, length, get_or, take, Some, None, sym, refl, ap, ◌∙◌, subst, ⊎_elim, arith}
 use Rattle.std.specs.List.{AllByRecursion as All}
 use Rattle.std.proofs.ByRecursion.{All-get_or, All-take}
 use Rattle.std.proofs.lemmas.List.{length-take-le, get_or-take, take_more, take_all}
 use Rattle.std.proofs.lemmas.Bool.{cases_lt, eq-eqb, eqb-true, eqb-false}
 use Rattle.words.specs.Distance.{differences}
 use Rattle.words.specs.Harm.{harm, harm_at}
-use Rattle.chains.specs.declared.chain.Estimate.{Estimate}
 use Rattle.chains.specs.Bits.{bits_of, spelled, total, parity}
 use Rattle.chains.specs.Even.{EvenRange, even_word, even_chain, filled_at, filled}
 use Rattle.chains.specs.Model.{Row, Cells, at_stage}
-use Rattle.chains.specs.Promises.{Continues, Estimates}
+use Rattle.chains.specs.Promises.{Estimates}
 use Rattle.chains.specs.EvenWords.{two_labels, even_cells, even_parity}
 use Rattle.chains.specs.Harms.{blanks_harm, differences_harm, own_harm}
 use Rattle.chains.specs.Parity.{total_append, differences_parity}

@@ -1,8 +1,7 @@
 -- What the program for the Reed-Muller chains works out is the estimate. Assumes nothing.
-use Rattle.std.proofs.Common.{◌≡◌, ℕ, ◌+◌, ◌-◌, ◌*◌, ◌/◌, ◌^◌, ◌<◌, ◌≤◌, List, length, take, drop, Some, None, sym, refl, ap, ◌∙◌, subst, ap₂, subst₂, arith}
+use Rattle.std.proofs.Common.{◌≡◌, ℕ, ◌+◌, ◌-◌, ◌*◌, ◌/◌, ◌^◌, ◌<◌, ◌≤◌, List, length, take, drop, Some, None, sym, ap, ◌∙◌, subst, ap₂, subst₂, arith}
 use lib.Bits.{bit_or}
 use lib.Count.{ones}
-use Rattle.chains.specs.declared.chain.Estimate.{Estimate}
 use Rattle.chains.specs.Bits.{bits_of, spelled}
 use Rattle.chains.specs.Model.{at_stage}
 use Rattle.chains.specs.Promises.{Estimates}

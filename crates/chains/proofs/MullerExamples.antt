@@ -1,8 +1,6 @@
 -- The worked examples, computed. Assumes nothing.
-use Rattle.std.proofs.Common.{◌≡◌, ℕ, ◌<◌, List, [], ◌∷◌, refl, arith}
-use Rattle.std.specs.List.{AllByRecursion as All}
+use Rattle.std.proofs.Common.{ℕ, List, [], ◌∷◌, refl, arith}
 use Rattle.chains.specs.Examples.{MullerExamples}
-use Rattle.chains.specs.Model.{Cells}
 use Rattle.chains.specs.ReedMuller.{MullerRange}
 use Rattle.chains.specs.Votes.{subsets}
 use Rattle.chains.specs.MullerColumns.{cells_tell}

@@ -1,11 +1,11 @@
 -- The tables of the Reed-Muller chains, each shown right by one test. Assumes nothing.
-use Rattle.std.proofs.Common.{◌≡◌, ℕ, suc, ◌+◌, ◌-◌, ◌*◌, ◌/◌, ◌%◌, ◌^◌, ◌<◌, ◌≤◌, Bool, true, false, cond, not, ◌&&◌, ◌||◌, eqb, ltb, leb, List, [], ◌∷◌, length, get_or, take, drop, sym, refl, ap, ◌∙◌, subst, ap₂, arith}
+use Rattle.std.proofs.Common.{◌≡◌, ℕ, ◌+◌, ◌-◌, ◌*◌, ◌/◌, ◌%◌, ◌^◌, ◌<◌, Bool, true, false, not, ◌&&◌, ◌||◌, eqb, ltb, List, [], ◌∷◌, get_or, take, drop, refl, ◌∙◌, subst, ap₂, arith}
 use lib.Bits.{bit_and}
 use Rattle.std.proofs.lemmas.Bool.{and_parts, eqb-true, ltb-true, eq-eqb}
 use Rattle.words.proofs.Table.{entry_passes}
 use Rattle.chains.specs.ReedMuller.{MullerRange, counted, muller_widths, order}
 use Rattle.chains.specs.Votes.{subsets}
-use Rattle.chains.specs.MullerColumns.{every, counted_test, each_muller, MullerSizes, muller_sizes}
+use Rattle.chains.specs.MullerColumns.{every, counted_test, each_muller, muller_sizes}
 
 abbrev pub order_rows : List ℕ
 order_rows =

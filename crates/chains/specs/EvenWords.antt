@@ -1,15 +1,14 @@
 -- The even chain is lawful, and its labels mean what they are said to. Assumes nothing.
-use Rattle.std.specs.Prelude.{◌≡◌, ℕ, zero, suc, ◌+◌, ◌-◌, ◌*◌, ◌%◌, ◌^◌, ◌<◌, ◌≤◌, List, [], ◌∷◌, ◌++◌, length, take, slice_index, refl}
-use Rattle.std.proofs.Common.{sym, ap, ap₂, subst, ◌∙◌, ⊎_elim, mod-eq_of_lt}
+use Rattle.std.specs.Prelude.{◌≡◌, ℕ, zero, suc, ◌+◌, ◌-◌, ◌%◌, ◌^◌, ◌<◌, ◌≤◌, List, [], ◌∷◌, take, slice_index}
+use Rattle.std.proofs.Common.{sym, ap, ◌∙◌, ⊎_elim, mod-eq_of_lt}
 use native.Mathlib.Omega.{arith}
-use Rattle.std.specs.List.{AllByRecursion as All}
 use Rattle.std.proofs.ByRecursion.{All-append}
 use Rattle.std.proofs.lemmas.List.{length-append, take_at, get_or-take}
 use Rattle.std.proofs.lemmas.Bool.{cases_lt}
 use Rattle.words.specs.Distance.{differences}
 use Rattle.chains.specs.Bits.{bits_of, spelled, total, parity}
 use Rattle.chains.specs.Even.{EvenRange, EvenMeaning, even_widths, even_word, even_chain}
-use Rattle.chains.specs.Model.{ChainModel, Stage, Row, Cells, FirstDiffer, LawfulChain, at_stage}
+use Rattle.chains.specs.Model.{Stage, Row, Cells, FirstDiffer, LawfulChain, at_stage}
 use Rattle.chains.specs.Parity.{total_append, differences_parity, same_from_differences}
 use Rattle.chains.specs.Spelling.{length_bits, bits_small, spelled_bits}
 

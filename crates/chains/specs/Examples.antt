@@ -1,5 +1,5 @@
 -- Worked examples of the Reed-Muller chain of eight cells. Assumes nothing.
-use Rattle.std.specs.Prelude.{◌≡◌, ℕ, List, [], ◌∷◌, Some, None}
+use Rattle.std.specs.Prelude.{◌≡◌, [], ◌∷◌, Some, None}
 use Rattle.chains.specs.declared.chain.Estimate.{Estimate}
 use Rattle.chains.specs.Promises.{Estimates}
 use Rattle.chains.specs.ReedMuller.{muller_word, muller_chain}

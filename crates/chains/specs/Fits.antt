@@ -1,12 +1,10 @@
 -- What is handed to a call that refuses nothing fits. Assumes nothing.
-use Rattle.std.specs.Prelude.{◌≡◌, ℕ, suc, ◌-◌, ◌^◌, ◌<◌, ◌≤◌, Bool, true, false, cond, ◌&&◌, List, [], ◌∷◌, length, Some, None, Option, nat_le, nat_lt, refl}
-use Rattle.std.proofs.Common.{sym, ap, ◌∙◌, arith}
+use Rattle.std.specs.Prelude.{◌≡◌, ℕ, suc, ◌-◌, ◌^◌, ◌≤◌, Bool, true, false, cond, ◌&&◌, List, [], ◌∷◌, Some, None, Option, nat_le, nat_lt, refl}
 use Rattle.std.proofs.lemmas.Bool.{ltb-true, leb-true, and_parts}
-use Rattle.std.specs.List.{AllByRecursion as All}
 use Rattle.words.specs.declared.fault.Layer.TheVariants.{Chain}
 use Rattle.words.specs.Buffers.{either, refusal}
 use Rattle.words.proofs.Passes.{fits_from_none}
-use Rattle.chains.specs.Model.{LabelsFrom, Cells}
+use Rattle.chains.specs.Model.{LabelsFrom}
 use Rattle.chains.specs.Refusals.{stage_refusal, large_label, sized, binary, word_refusal, estimate_refusal, RowFits, ReadingFits}
 
 left : {X : Type 0} (x y : Option X) → either x y ≡ None → x ≡ None

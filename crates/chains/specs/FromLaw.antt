@@ -1,17 +1,16 @@
 -- What follows from a chain's law, for every chain. Assumes nothing.
 use Rattle.std.specs.Prelude.{◌≡◌, ℕ, zero, suc, ◌+◌, ◌-◌, ◌*◌, ◌^◌, ◌<◌, ◌≤◌, ◌⊎◌, List, [], ◌∷◌, ◌++◌, length, take, replicate, Some, None, Ok, Err, Option, Result, MatchResult, ◌≢◌, slice_index, refl}
 use Rattle.std.proofs.Math.Path.{sym}
-use Rattle.std.proofs.Common.{ap, ap₂, subst, ◌∙◌, inl, inr, ⊎_elim, add-suc, arith, pow_pos}
+use Rattle.std.proofs.Common.{ap, ap₂, subst, ◌∙◌, inl, inr, ⊎_elim, arith, pow_pos}
 use Rattle.std.proofs.Math.Pow.{pow_mono}
 use Rattle.std.proofs.lemmas.List.{get_or-take, get_or_at, take_at, length-append, length-replicate}
 use Rattle.std.proofs.lemmas.Bool.{cases_eq, cases_lt}
 use Rattle.words.specs.declared.fault.Fault.{Fault}
-use Rattle.words.specs.Distance.{differences}
 use Rattle.words.specs.Harm.{harm}
 use Rattle.words.proofs.Distances.{harms_apart, differences_le}
 use Rattle.chains.specs.declared.chain.Estimate.{Estimate}
 use Rattle.chains.specs.Derived.{TwoRows, OneEstimate, Derived, Determined}
-use Rattle.chains.specs.Model.{ChainModel, LawfulChain, Stage, LabelsFrom, Row, FirstDiffer, before, at_stage}
+use Rattle.chains.specs.Model.{ChainModel, LawfulChain, Stage, LabelsFrom, Row, FirstDiffer, at_stage}
 use Rattle.chains.specs.Promises.{Estimates, Answered}
 use Rattle.chains.specs.Refusals.{estimate_refusal}
 use Rattle.chains.specs.Fits.{reading_fits}

@@ -1,15 +1,14 @@
 -- Words as what bits leave on the cells, and the harm by what is left of a reading. Assumes nothing.
-use Rattle.std.specs.Prelude.{◌≡◌, ℕ, zero, suc, ◌+◌, ◌-◌, ◌*◌, ◌%◌, ◌<◌, ◌≤◌, Bool, true, false, cond, List, [], ◌∷◌, ◌++◌, map, length, drop, replicate, ◌==◌, slice_index, slice_index_or, refl}
-use Rattle.std.proofs.Common.{sym, ap, ap₂, subst, ◌∙◌, arith}
+use Rattle.std.specs.Prelude.{◌≡◌, ℕ, zero, suc, ◌+◌, ◌*◌, ◌%◌, ◌<◌, ◌≤◌, Bool, true, false, cond, List, [], ◌∷◌, ◌++◌, map, length, drop, replicate, ◌==◌, slice_index, slice_index_or, refl}
+use Rattle.std.proofs.Common.{sym, ap, ap₂, ◌∙◌, arith}
 use Rattle.std.specs.List.{AllByRecursion as All}
 use Rattle.std.proofs.ByRecursion.{All-get_or}
-use Rattle.std.proofs.lemmas.List.{ext_get_or, get_or-map, get_or-replicate, length-map, length-replicate}
+use Rattle.std.proofs.lemmas.List.{ext_get_or, get_or-map, get_or-replicate, length-map}
 use Rattle.words.specs.Harm.{harm, harm_at}
-use Rattle.chains.specs.Bits.{total}
 use Rattle.chains.specs.Model.{Cells}
 use Rattle.chains.specs.ReedMuller.{counted, inside, held}
 use Rattle.chains.specs.Votes.{Column, added, turned, laid, left_harm}
-use Rattle.chains.specs.Voting.{Good, added_cells, turned_cells, laid_cells}
+use Rattle.chains.specs.Voting.{Good, turned_cells, laid_cells}
 
 added_assoc : (x y z : List ℕ) → added (added x y) z ≡ added x (added y z)
 added_assoc [] y z = refl

@@ -1,5 +1,5 @@
 -- The Reed-Muller chain is lawful: words that lie too near would both be found in one reading. Assumes nothing.
-use Rattle.std.specs.Prelude.{◌≡◌, ℕ, zero, suc, ◌+◌, ◌-◌, ◌^◌, ◌<◌, ◌≤◌, Bool, true, false, cond, List, [], ◌∷◌, ◌++◌, length, take, drop, ◌==◌, slice_index, refl}
+use Rattle.std.specs.Prelude.{◌≡◌, ℕ, zero, suc, ◌+◌, ◌-◌, ◌^◌, ◌<◌, ◌≤◌, true, false, cond, List, [], ◌∷◌, ◌++◌, length, take, drop, ◌==◌, slice_index, refl}
 use Rattle.std.proofs.Common.{sym, ap, ap₂, subst, ◌∙◌, ⊎_elim, arith, pow_mono, pow_pos}
 use Rattle.std.specs.List.{AllByRecursion as All}
 use Rattle.std.proofs.ByRecursion.{All-get_or}
@@ -9,7 +9,7 @@ use Rattle.words.specs.Distance.{differences}
 use Rattle.words.specs.Harm.{harm, harm_at}
 use Rattle.chains.specs.Bits.{total}
 use Rattle.chains.specs.Model.{Stage, Row, Cells, LabelsFrom, FirstDiffer, LawfulChain, at_stage}
-use Rattle.chains.specs.ReedMuller.{MullerRange, muller_widths, muller_word, muller_chain, row_bits}
+use Rattle.chains.specs.ReedMuller.{MullerRange, muller_widths, muller_word, muller_chain}
 use Rattle.chains.specs.Harms.{own_harm}
 use Rattle.chains.specs.MullerWords.{word_cells, finds}
 use Rattle.chains.specs.RowBits.{Fit, fit_from, cut, cut_row_bits}

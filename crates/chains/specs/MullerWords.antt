@@ -1,22 +1,20 @@
 -- The words of the Reed-Muller chain, and what its votes find. Assumes nothing.
-use Rattle.std.specs.Prelude.{◌≡◌, ℕ, zero, suc, ◌+◌, ◌-◌, ◌*◌, ◌^◌, ◌<◌, ◌≤◌, List, [], ◌∷◌, ◌++◌, length, take, drop, replicate, Some, None, slice_index, refl}
-use Rattle.std.proofs.Common.{sym, ap, ap₂, subst, ◌∙◌, ⊎_elim, arith}
+use Rattle.std.specs.Prelude.{◌≡◌, ℕ, suc, ◌+◌, ◌-◌, ◌^◌, ◌<◌, ◌≤◌, List, ◌∷◌, ◌++◌, length, take, drop, replicate, Some, None, slice_index}
+use Rattle.std.proofs.Common.{sym, ap, subst, ◌∙◌, ⊎_elim, arith}
 use Rattle.std.specs.List.{AllByRecursion as All}
 use Rattle.std.proofs.ByRecursion.{All-weaker}
-use Rattle.std.proofs.lemmas.List.{length-append, length-drop, length-take-le, take-append-drop, take_all, take_at, get_or_at}
+use Rattle.std.proofs.lemmas.List.{length-append, length-drop, take-append-drop, take_all, take_at, get_or_at}
 use Rattle.std.proofs.lemmas.Bool.{cases_lt}
 use Rattle.words.specs.Harm.{harm}
-use Rattle.chains.specs.declared.chain.Estimate.{Estimate}
 use Rattle.chains.specs.Bits.{spelled, total}
-use Rattle.chains.specs.Model.{Stage, Row, Cells, LabelsFrom, before, at_stage}
-use Rattle.chains.specs.Promises.{Continues, Estimates}
+use Rattle.chains.specs.Model.{Row, Cells, LabelsFrom, at_stage}
+use Rattle.chains.specs.Promises.{Estimates}
 use Rattle.chains.specs.ReedMuller.{MullerRange, muller_widths, muller_word, muller_chain, order, row_bits}
-use Rattle.chains.specs.Refusals.{ReadingFits}
 use Rattle.chains.specs.Votes.{Column, column, columns, laid, left_harm, decided_bits, found_bits, found_harm}
 use Rattle.chains.specs.FromLaw.{labels_append}
 use Rattle.chains.specs.Laying.{zeros_cells, harm_laid, laid_append, word_laid}
 use Rattle.chains.specs.Parity.{total_append}
-use Rattle.chains.specs.RowBits.{Fit, fit_from, from_fit, widths_more, row_bits_small, length_row_bits, row_bits_append, cut, length_cut, cut_fits, row_bits_cut}
+use Rattle.chains.specs.RowBits.{Fit, from_fit, widths_more, row_bits_small, length_row_bits, row_bits_append, cut, length_cut, cut_fits, row_bits_cut}
 use Rattle.chains.specs.MullerColumns.{MullerSizes, muller_good, muller_enough, muller_reach, muller_sizes}
 use Rattle.chains.specs.Voting.{laid_cells, settles, length_settled, settled_small, good_drop}
 

@@ -1,5 +1,5 @@
 -- What a chain's calls promise: of a sound chain just the answer that its meaning gives, of any other a refusal. Assumes nothing.
-use Rattle.std.specs.Prelude.{◌≡◌, ℕ, ◌<◌, ◌≤◌, List, Some, None, Ok, Err, Option, Result, MatchResult}
+use Rattle.std.specs.Prelude.{◌≡◌, ℕ, ◌<◌, ◌≤◌, List, Some, None, Err, Option, Result, MatchResult}
 use Rattle.words.specs.declared.fault.Fault.{Fault}
 use Rattle.words.specs.Buffers.{answered, checked}
 use Rattle.words.specs.Harm.{harm}

@@ -1,5 +1,5 @@
 -- Reed's votes, by which the bits of a row are read off a reading one after the other. Assumes nothing.
-use Rattle.std.specs.Prelude.{ℕ, zero, suc, ◌+◌, ◌-◌, ◌*◌, ◌%◌, ◌^◌, min, cond, ◌&&◌, List, [], ◌∷◌, map, length, drop, filter, ◌==◌, bit_and, nat_eq, nat_lt}
+use Rattle.std.specs.Prelude.{ℕ, ◌+◌, ◌-◌, ◌*◌, ◌%◌, ◌^◌, min, cond, ◌&&◌, List, [], ◌∷◌, map, length, drop, filter, ◌==◌, bit_and, nat_eq, nat_lt}
 use Rattle.chains.specs.Bits.{bits_of, total}
 use Rattle.chains.specs.ReedMuller.{counted, inside, muller_widths, order, row_bits}
 

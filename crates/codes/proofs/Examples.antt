@@ -1,5 +1,5 @@
 -- The repetition code on a word of four places. Assumes nothing.
-use Rattle.std.proofs.Common.{◌≡◌, ℕ, zero, suc, List, [], ◌∷◌, refl, arith, lit<}
+use Rattle.std.proofs.Common.{ℕ, zero, suc, List, [], ◌∷◌, refl, arith, lit<}
 use Rattle.codes.specs.Examples.{RepetitionExample}
 use Rattle.codes.specs.Kinds.{repetition_code}
 use Rattle.codes.specs.Model.{Near}

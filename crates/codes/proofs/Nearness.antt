@@ -1,9 +1,9 @@
 -- At most one codeword lies nearer than the distance. Assumes nothing.
-use Rattle.std.proofs.Common.{◌≡◌, ℕ, ◌+◌, ◌*◌, ◌<◌, ◌≤◌, List, length, sym, ◌∙◌, arith}
+use Rattle.std.proofs.Common.{◌≡◌, ℕ, List, sym, ◌∙◌, arith}
 use mathlib.Core.List.{List-discrete}
 use native.Mathlib.Decide.{ℕ_discrete}
 use Rattle.words.proofs.Distances.{harms_apart}
-use Rattle.codes.specs.Model.{CodeModel, Lawful, Message, Near, OnlyOneNear}
+use Rattle.codes.specs.Model.{CodeModel, Lawful, OnlyOneNear}
 
 pub only_one_near : (c : CodeModel) → Lawful c → (word marks : List ℕ) → OnlyOneNear c word marks
 only_one_near c lawful word marks lw lm u v nu nv = by (List-discrete ℕ_discrete u v)

@@ -1,5 +1,5 @@
 -- The repetition code on a word of four places. Assumes nothing.
-use Rattle.std.specs.Prelude.{ℕ, [], ◌∷◌, Ok, Err}
+use Rattle.std.specs.Prelude.{[], ◌∷◌, Ok, Err}
 use Rattle.words.specs.declared.fault.Kind.TheVariants.{NoCodeword}
 use Rattle.words.specs.declared.fault.Layer.TheVariants.{Code}
 use Rattle.words.specs.Faults.{fault}

@@ -1,5 +1,5 @@
 -- What the three calls of a sound code answer, refusals and buffers included. Assumes nothing.
-use Rattle.std.specs.Prelude.{◌≡◌, ℕ, ◌^◌, ◌<◌, ◌≤◌, List, [], ◌∷◌, Ok, Err, Result, ◌≢◌}
+use Rattle.std.specs.Prelude.{◌≡◌, ℕ, ◌^◌, List, [], ◌∷◌, Ok, Err, Result, ◌≢◌}
 use Rattle.std.specs.Option as options
 use Rattle.std.specs.Result as results
 use Rattle.words.specs.declared.fault.Fault.{Fault}

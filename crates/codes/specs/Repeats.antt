@@ -2,13 +2,13 @@
 use Rattle.std.specs.Prelude.{◌≡◌, ℕ, zero, suc, ◌+◌, ◌*◌, ◌^◌, ◌<◌, ◌≤◌, Bool, true, false, cond, ◌&&◌, List, [], ◌∷◌, length, drop, replicate, ◌==◌, ◌≢◌, slice_index, slice_set, refl}
 use Rattle.std.proofs.Common.{sym, ap, ap₂, subst, ◌∙◌, arith}
 use Rattle.std.specs.List.{AllByRecursion as All}
-use Rattle.std.proofs.lemmas.List.{drop_more, drop_all, length-set, length-replicate, get_or-set_same, get_or-set_other, get_or-replicate}
+use Rattle.std.proofs.lemmas.List.{drop_more, drop_all, length-replicate, get_or-set_same, get_or-set_other, get_or-replicate}
 use Rattle.std.proofs.lemmas.Bool.{eq-eqb, ne_eqb, eqb-true, eqb-false}
 use Rattle.words.specs.Distance.{differences}
-use Rattle.words.specs.Harm.{harm, harm_at}
+use Rattle.words.specs.Harm.{harm}
 use Rattle.codes.specs.Kinds.{readable_count, repetition_code}
 use Rattle.codes.specs.Making.{InRange}
-use Rattle.codes.specs.Model.{Lawful, Message}
+use Rattle.codes.specs.Model.{Lawful}
 
 pub count_more : (x : ℕ) (word marks : List ℕ) (i : ℕ) → i < length word → i < length marks → readable_count x (drop i word) (drop i marks) ≡ cond (slice_index marks i == 0 && slice_index word i == x) 1 0 + readable_count x (drop (i + 1) word) (drop (i + 1) marks)
 count_more x word marks i lw lm = rw (drop_more word i 0 lw, drop_more marks i 0 lm)

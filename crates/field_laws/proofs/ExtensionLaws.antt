@@ -1,5 +1,5 @@
 -- The extension of any field that keeps the laws keeps them too. Assumes nothing.
-use Rattle.std.proofs.Common.{◌≡◌, ℕ, zero, ◌+◌, ◌*◌, ◌/◌, ◌%◌, ◌<◌, ◌≢◌, [], ◌∷◌, Some, sym, ap, ◌∙◌, ap₂, arith, pow_pos}
+use Rattle.std.proofs.Common.{◌≡◌, ℕ, ◌+◌, ◌*◌, ◌/◌, ◌%◌, ◌<◌, ◌≢◌, [], ◌∷◌, Some, sym, ap, ◌∙◌, ap₂, arith, pow_pos}
 use Rattle.std.proofs.lemmas.Nat.{pow_below}
 use Rattle.algebra.specs.Field.{Ring, Field}
 use Rattle.algebra.specs.Ring.{◌⊕◌, ◌⊗◌, 𝟙, 𝟘}

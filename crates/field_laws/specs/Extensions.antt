@@ -1,6 +1,6 @@
 -- The extension of a field by a root y of y·y = y + c: the number a + q·b stands for a + b·y, where q is the size of the field below.
 -- Assumes nothing.
-use Rattle.std.specs.Prelude.{◌≡◌, ℕ, ◌+◌, ◌*◌, ◌/◌, ◌%◌, ◌<◌, ◌≤◌, Some, None, Option, ◌≢◌}
+use Rattle.std.specs.Prelude.{ℕ, ◌+◌, ◌*◌, ◌/◌, ◌%◌, ◌<◌, ◌≤◌, Some, None, Option, ◌≢◌}
 use Rattle.field_laws.specs.Fields.{FieldModel, size}
 
 -- no element e has e·e + e = c

@@ -3,7 +3,7 @@ use Rattle.std.specs.Prelude.{◌≡◌, ℕ, cond, ◌&&◌, List, [], ◌∷�
 use Rattle.words.specs.declared.fault.Fault.{Fault}
 use Rattle.words.specs.declared.fault.Kind.TheVariants.{PageOutOfRange, CellOutOfRange}
 use Rattle.words.specs.declared.fault.Layer.TheVariants.{Medium}
-use Rattle.words.specs.Buffers.{Given, either, refusal, values_below, written_to}
+use Rattle.words.specs.Buffers.{either, refusal, values_below, written_to}
 use Rattle.words.specs.Faults.{fault}
 use Rattle.media_laws.specs.Model.{MediumModel, value_of, mark_of, stored, Unchanged, Changed}
 

@@ -1,12 +1,11 @@
 -- The grid keeps the laws of a medium, and its calls change just what they should. Assumes nothing.
-use Rattle.std.proofs.Common.{◌≡◌, ℕ, zero, suc, ◌+◌, ◌*◌, ◌<◌, ◌≤◌, Bool, true, false, cond, eqb, ltb, List, [], ◌∷◌, map, length, set, sym, refl, ap, ◌∙◌, subst, ap₂, arith}
+use Rattle.std.proofs.Common.{◌≡◌, ℕ, suc, ◌+◌, ◌*◌, ◌<◌, ◌≤◌, List, [], ◌∷◌, map, length, set, refl, ap, ◌∙◌, ap₂, arith}
 use borrow.Rule.Slice.PartMut.{put_mid}
 use Rattle.std.specs.List.{AllByRecursion as All}
-use Rattle.std.proofs.ByRecursion.{All-from_get_or, All-map, All-weaker}
 use Rattle.std.proofs.lemmas.List.{length-map, map-set}
 use Rattle.std.proofs.lemmas.Bool.Decides.{nat_tests}
 use Rattle.media_laws.specs.Grid.{grid, GridFits, state_of, page_bytes, put_byte, put_bytes}
-use Rattle.media_laws.specs.Model.{MediumModel, LawfulMedium, Changed, put_to, stored}
+use Rattle.media_laws.specs.Model.{LawfulMedium, Changed, put_to, stored}
 use Rattle.media_laws.proofs.Pages.{length_page, page_put, page_kept, page_set, page_unset}
 
 state_small : (b : ℕ) → state_of b < 3

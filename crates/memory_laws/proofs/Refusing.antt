@@ -1,7 +1,6 @@
 -- A call of a memory that is refused before it looks at its page. Assumes nothing.
 use Rattle.std.proofs.Common.{◌≡◌, ℕ, List, Some, Err, Option, refl}
 use Rattle.std.specs.Option as options
-use Rattle.std.specs.Result as results
 use Rattle.words.specs.declared.fault.Fault.{Fault}
 use Rattle.words.specs.Faults.{on_page}
 use Rattle.codes.specs.Model.{CodeModel}

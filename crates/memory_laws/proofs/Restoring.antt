@@ -1,6 +1,5 @@
 -- A page is fetched, corrected and turned into a message. Assumes nothing.
 use Rattle.std.proofs.Common.{◌≡◌, ℕ, ◌*◌, ◌^◌, ◌<◌, ◌≤◌, List, [], ◌∷◌, map, length, get_or, replicate, None, Ok, Err, Result, sym, refl, ap, ◌∙◌, subst, subst₂, inr, arith}
-use Rattle.std.specs.Option as options
 use Rattle.std.specs.Result as results
 use Rattle.std.specs.List.{AllByRecursion as All}
 use Rattle.std.proofs.lemmas.List.{length-map}

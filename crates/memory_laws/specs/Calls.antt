@@ -1,5 +1,5 @@
 -- What the calls of a memory answer: a code joined to a medium. Assumes nothing.
-use Rattle.std.specs.Prelude.{◌≡◌, ℕ, ◌*◌, ◌<◌, ◌≤◌, ◌⊎◌, List, [], ◌∷◌, map, length, set, Ok, Err, count_by, Option, Result, nat_eq, slice_index, slice_set}
+use Rattle.std.specs.Prelude.{◌≡◌, ℕ, ◌*◌, ◌<◌, ◌≤◌, ◌⊎◌, List, [], ◌∷◌, map, Ok, Err, count_by, Option, Result, nat_eq, slice_index, slice_set}
 use Rattle.std.specs.Option as options
 use Rattle.std.specs.Result as results
 use Rattle.words.specs.declared.fault.Fault.{Fault}

@@ -1,20 +1,19 @@
 -- What a pile answers, by the stages' choices. Assumes nothing.
-use Rattle.std.proofs.Common.{◌≡◌, ℕ, suc, ◌*◌, ◌^◌, ◌<◌, ◌≤◌, ◌⊎◌, List, [], ◌∷◌, length, replicate, None, Ok, Err, sym, refl, ap, ◌∙◌, subst, ap₂, inl, inr, arith}
-use Rattle.std.specs.List.{AllByRecursion as All}
+use Rattle.std.proofs.Common.{◌≡◌, ℕ, ◌*◌, ◌<◌, List, length, None, Ok, Err, ap, ◌∙◌, inl, inr, arith}
 use Rattle.words.specs.declared.fault.Kind.TheVariants.{NoCodeword}
 use Rattle.words.specs.declared.fault.Layer.TheVariants.{Code}
 use Rattle.words.specs.Buffers.{refusal}
 use Rattle.words.specs.Faults.{fault}
 use Rattle.words.specs.Harm.{harm}
 use Rattle.chains.specs.Model.{ChainModel, LawfulChain}
-use Rattle.codes.specs.Model.{CodeModel, Message, Near}
+use Rattle.codes.specs.Model.{CodeModel, Near}
 use Rattle.codes.specs.Promises.{Corrected}
 use Rattle.codes.proofs.Working.{correct_buffers, corrected, uncorrected}
-use Rattle.pile_laws.specs.Build.{columns, laid, reach, stage_words}
+use Rattle.pile_laws.specs.Build.{columns, laid, reach}
 use Rattle.pile_laws.specs.Fit.{EachLawful, Fits}
 use Rattle.pile_laws.specs.Pile.{GivesUp, pile}
 use Rattle.pile_laws.specs.Stages.{Choices}
-use Rattle.pile_laws.proofs.Near.{none_chosen, none_whole, own_whole}
+use Rattle.pile_laws.proofs.Near.{none_chosen, none_whole}
 use Rattle.pile_laws.proofs.Outcomes.{chosen_codeword}
 
 module _ (h : ChainModel) (law : LawfulChain h) (cs : List CodeModel) (laws : EachLawful cs) (fits : Fits h cs) (word marks : List ℕ) (lw : length word ≡ h.breadth * columns cs) (lm : length marks ≡ h.breadth * columns cs) where

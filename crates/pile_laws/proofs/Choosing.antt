@@ -1,22 +1,21 @@
 -- One stage after the other: what the estimates give the stage rule, and what its choice adds. Assumes nothing.
-use Rattle.std.proofs.Common.{◌≡◌, ℕ, zero, suc, ◌+◌, ◌-◌, ◌*◌, ◌^◌, ◌<◌, ◌≤◌, true, ◌&&◌, eqb, ltb, ◌⊎◌, List, [], ◌∷◌, ◌++◌, length, get_or, take, set, Some, None, Err, Option, Result, sym, refl, ap, ◌∙◌, subst, ap₂, ⊎_elim, arith, MatchResult}
+use Rattle.std.proofs.Common.{◌≡◌, ℕ, zero, suc, ◌+◌, ◌-◌, ◌^◌, ◌<◌, ◌≤◌, true, eqb, List, [], ◌∷◌, ◌++◌, length, get_or, take, set, Some, None, Err, Option, Result, sym, refl, ap, ◌∙◌, subst, ⊎_elim, arith, MatchResult}
 use Rattle.std.specs.Option as options
 use Rattle.std.specs.List.{AllByRecursion as All}
 use Rattle.std.proofs.ByRecursion.{All-from_get_or}
 use Rattle.std.proofs.lemmas.List.{get_or_append_left, get_or_at, get_or-set_other, get_or-set_same, length_push, take-append-le, take_at}
 use Rattle.std.proofs.lemmas.Bool.{and_from, cases_eq, cases_lt, cond-true, eq-eqb, lt-ltb}
 use Rattle.words.specs.declared.fault.Fault.{Fault}
-use Rattle.words.specs.Buffers.{either}
 use Rattle.chains.specs.declared.chain.Estimate.{Estimate}
-use Rattle.chains.specs.Model.{ChainModel, LawfulChain, LabelsFrom, Row, Stage, at_stage}
+use Rattle.chains.specs.Model.{ChainModel, LabelsFrom}
 use Rattle.chains.specs.Promises.{Estimates}
-use Rattle.codes.specs.Model.{CodeModel, Lawful, Symbols}
+use Rattle.codes.specs.Model.{CodeModel, Symbols}
 use Rattle.stage_laws.specs.Promises.{Choice, Chose, choose_refusal, first_large, fits_column, length_refusal}
 use Rattle.pile_laws.specs.Build.{columns, labels_at}
 use Rattle.pile_laws.specs.Fit.{EachLawful, Fits}
 use Rattle.pile_laws.specs.Stages.{Choices, ColumnEstimates, NextChoice, code_at, column, no_code}
 use Rattle.pile_laws.proofs.Calls.{both_none}
-use Rattle.pile_laws.proofs.Fitting.{Fitting, code_after, fitting, fitting_at, lawful_at}
+use Rattle.pile_laws.proofs.Fitting.{code_after, fitting, fitting_at, lawful_at}
 use Rattle.pile_laws.proofs.Outcomes.{chosen_encoded}
 use Rattle.pile_laws.proofs.Rows.{WordsOf}
 

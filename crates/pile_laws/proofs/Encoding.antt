@@ -1,5 +1,5 @@
 -- The row of the stages' codewords of a message. Assumes nothing.
-use Rattle.std.proofs.Common.{◌≡◌, ℕ, ◌<◌, ◌≤◌, List, length, sym, refl, ap, ◌∙◌, subst, arith}
+use Rattle.std.proofs.Common.{ℕ, ◌<◌, List, arith}
 use Rattle.chains.specs.Model.{ChainModel, LawfulChain, Row}
 use Rattle.codes.specs.Model.{CodeModel, Message}
 use Rattle.pile_laws.specs.Build.{columns, labels_at, stage_messages, stage_words}

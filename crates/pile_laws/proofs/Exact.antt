@@ -1,10 +1,10 @@
 -- A word without blank places that is a codeword lies at no harm from it, and from no other word. Assumes nothing.
-use Rattle.std.proofs.Common.{◌≡◌, ℕ, zero, suc, ◌+◌, ◌*◌, ◌<◌, ◌≤◌, Bool, true, false, cond, eqb, List, [], ◌∷◌, length, replicate, sym, refl, ap, ◌∙◌, subst, ap₂, arith}
+use Rattle.std.proofs.Common.{◌≡◌, ℕ, ◌+◌, ◌*◌, ◌<◌, Bool, true, false, cond, eqb, List, [], ◌∷◌, length, replicate, sym, refl, ap, ◌∙◌, subst, ap₂, arith}
 use Rattle.std.proofs.lemmas.List.{length-replicate}
 use Rattle.std.proofs.lemmas.Bool.{eq-eqb, eqb-true}
 use Rattle.words.specs.Harm.{harm}
 use Rattle.chains.specs.Model.{ChainModel, LawfulChain}
-use Rattle.codes.specs.Model.{CodeModel, Lawful, Message, Near}
+use Rattle.codes.specs.Model.{CodeModel, Message, Near}
 use Rattle.pile_laws.specs.Build.{columns, laid}
 use Rattle.pile_laws.specs.Fit.{EachLawful, Fits}
 use Rattle.pile_laws.specs.Flat.{words_in}

@@ -1,11 +1,11 @@
 -- What it says, stage by stage, that codes fit a chain. Assumes nothing.
-use Rattle.std.proofs.Common.{◌≡◌, ℕ, zero, suc, ◌+◌, ◌-◌, ◌*◌, ◌<◌, ◌≤◌, Bool, true, false, cond, eqb, leb, List, [], ◌∷◌, length, get_or, Some, None, Option, sym, refl, ap, ◌∙◌, subst, arith}
+use Rattle.std.proofs.Common.{◌≡◌, ℕ, zero, suc, ◌+◌, ◌-◌, ◌*◌, ◌<◌, ◌≤◌, Bool, true, false, cond, leb, List, [], ◌∷◌, length, get_or, Some, None, Option, refl, ap, ◌∙◌, arith}
 use Rattle.std.proofs.lemmas.Bool.{and_parts, eqb-true, leb-true, leb-false}
 use Rattle.words.specs.Buffers.{either}
-use Rattle.chains.specs.Model.{ChainModel, Stage}
+use Rattle.chains.specs.Model.{ChainModel}
 use Rattle.codes.specs.Model.{CodeModel, Lawful}
 use Rattle.pile_laws.specs.Build.{columns}
-use Rattle.pile_laws.specs.Fit.{Fits, EachLawful, EachLong, fits_stage, unfit, unfit_from}
+use Rattle.pile_laws.specs.Fit.{Fits, EachLawful, EachLong, fits_stage, unfit_from}
 use Rattle.pile_laws.specs.Stages.{no_code, code_at}
 
 -- from stage i on each code has a stage, its width and n columns, and no stage is left

@@ -1,9 +1,8 @@
 -- Words that lie one behind the other in one row, and what a write to one of them leaves. Assumes nothing.
-use Rattle.std.proofs.Common.{◌≡◌, ℕ, zero, suc, ◌+◌, ◌-◌, ◌*◌, ◌<◌, ◌≤◌, List, [], ◌∷◌, ◌++◌, map, length, get_or, take, drop, sym, refl, ap, ◌∙◌, subst, ap₂, mul-le-mul_left, mul-suc, mul-add, arith}
+use Rattle.std.proofs.Common.{◌≡◌, ℕ, suc, ◌+◌, ◌*◌, ◌<◌, ◌≤◌, List, [], ◌∷◌, ◌++◌, length, get_or, take, drop, sym, ap, ◌∙◌, ap₂, mul-le-mul_left, mul-suc, arith}
 use borrow.Rule.Slice.PartMut.{put_mid}
-use Rattle.std.specs.List.{range_with_len}
 use Rattle.std.proofs.lemmas.List.FromFn.{length-map-range_with_len, get_or-map-range_with_len, take-map-range_with_len, map-range_with_len_more}
-use Rattle.std.proofs.lemmas.List.{drop_at, drop-take, ext_get_or, get_or-drop, get_or-map, get_or-take, length-map, length-take-le, same_lists, take_at}
+use Rattle.std.proofs.lemmas.List.{drop_at, drop-take, ext_get_or, get_or-drop, get_or-map, get_or-take, length-map, length-take-le, take_at}
 use Rattle.std.proofs.lemmas.Slice.{take-put_mid_below}
 use Rattle.pile_laws.specs.Build.{labels_at}
 use Rattle.pile_laws.specs.Flat.{words_in}

@@ -1,16 +1,14 @@
 -- A pile of lawful parts is a lawful code. Assumes nothing.
-use Rattle.std.proofs.Common.{◌≡◌, ℕ, zero, suc, ◌+◌, ◌-◌, ◌*◌, ◌^◌, ◌<◌, ◌≤◌, Bool, true, false, cond, eqb, ◌⊎◌, List, [], ◌∷◌, length, get_or, take, sym, refl, ap, ◌∙◌, subst, ap₂, inl, inr, ⊎_elim, mul-le-mul_left, arith}
+use Rattle.std.proofs.Common.{◌≡◌, ℕ, zero, suc, ◌-◌, ◌*◌, ◌<◌, ◌≤◌, Bool, true, false, cond, eqb, ◌⊎◌, List, [], ◌∷◌, length, get_or, take, sym, refl, ap, ◌∙◌, subst, ap₂, inl, inr, ⊎_elim, mul-le-mul_left, arith}
 use mathlib.Core.List.{List-discrete}
 use native.Mathlib.Decide.{ℕ_discrete}
 use native.Mathlib.Nat.{one-le-mul}
-use Rattle.std.specs.List.{AllByRecursion as All}
 use Rattle.std.proofs.lemmas.Bool.{eqb-false}
-use Rattle.algebra.specs.Sums.{total}
 use Rattle.algebra.proofs.Sums.{total_le, total_mul}
 use Rattle.words.specs.Distance.{differences}
-use Rattle.chains.specs.Model.{ChainModel, LawfulChain, Stage, FirstDiffer, before, at_stage}
+use Rattle.chains.specs.Model.{ChainModel, LawfulChain, Stage, FirstDiffer}
 use Rattle.codes.specs.Model.{CodeModel, Lawful, Message}
-use Rattle.pile_laws.specs.Build.{columns, encoded, joined_bits, laid, labels_at, reach, stage_bits, stage_messages, stage_words, total_bits}
+use Rattle.pile_laws.specs.Build.{columns, encoded, joined_bits, laid, labels_at, reach, stage_messages, stage_words, total_bits}
 use Rattle.pile_laws.specs.Fit.{EachLawful, Fits}
 use Rattle.pile_laws.specs.Pile.{pile}
 use Rattle.pile_laws.specs.Stages.{no_code}

@@ -1,12 +1,11 @@
 -- Where a codeword lies nearer than the reach, every stage chooses that codeword's own word. Assumes nothing.
-use Rattle.std.proofs.Common.{◌≡◌, ℕ, zero, suc, ◌+◌, ◌-◌, ◌*◌, ◌<◌, ◌≤◌, Bool, true, false, cond, eqb, List, [], ◌∷◌, ◌++◌, length, get_or, take, Some, None, Option, sym, refl, ap, ◌∙◌, subst, ap₂, arith}
+use Rattle.std.proofs.Common.{◌≡◌, ℕ, zero, suc, ◌+◌, ◌-◌, ◌*◌, ◌<◌, ◌≤◌, Bool, true, false, cond, eqb, List, [], length, get_or, take, Some, None, Option, sym, refl, ap, ◌∙◌, subst, arith}
 use mathlib.Core.List.{List-discrete}
 use native.Mathlib.Decide.{ℕ_discrete}
 use Rattle.std.specs.List.{AllByRecursion as All}
 use Rattle.std.proofs.ByRecursion.{All-from_get_or}
 use Rattle.std.proofs.lemmas.List.{length-take-le, take_all, take_more_same}
 use Rattle.std.proofs.lemmas.Bool.{eq-eqb}
-use Rattle.algebra.specs.Sums.{total}
 use Rattle.algebra.proofs.Sums.{total_le}
 use Rattle.words.specs.Harm.{harm}
 use Rattle.chains.specs.declared.chain.Estimate.{Estimate}
@@ -16,11 +15,11 @@ use Rattle.chains.specs.FromLaw.{two_rows}
 use Rattle.codes.specs.Model.{CodeModel, Lawful, Message, Near}
 use Rattle.stage_laws.specs.Rule.{Chosen, OneChoice, Within, score, score_at}
 use Rattle.stage_laws.proofs.OneChoice.{one_choice}
-use Rattle.pile_laws.specs.Build.{columns, encoded, labels_at, laid, reach, stage_messages, stage_words}
+use Rattle.pile_laws.specs.Build.{columns, labels_at, laid, reach, stage_messages, stage_words}
 use Rattle.pile_laws.specs.Fit.{EachLawful, Fits}
 use Rattle.pile_laws.specs.Pile.{pile}
-use Rattle.pile_laws.specs.Stages.{Choices, ColumnEstimates, NextChoice, NoChoice, code_at, column, no_code}
-use Rattle.pile_laws.proofs.Columns.{row_word, column_harm, harm_laid, length_column, score_total}
+use Rattle.pile_laws.specs.Stages.{Choices, ColumnEstimates, NextChoice, NoChoice, code_at, column}
+use Rattle.pile_laws.proofs.Columns.{column_harm, harm_laid, length_column, score_total}
 use Rattle.pile_laws.proofs.Fitting.{Fitting, code_after, fitting, fitting_at, lawful_at}
 use Rattle.pile_laws.proofs.Law.{messages, many, row_length, words_of}
 use Rattle.pile_laws.proofs.Messages.{EachMessage}

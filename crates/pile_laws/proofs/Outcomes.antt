@@ -1,10 +1,9 @@
 -- What the stages' choices come to as the answer of a pile. Assumes nothing.
-use Rattle.std.proofs.Common.{◌≡◌, ℕ, zero, suc, ◌+◌, ◌-◌, ◌*◌, ◌<◌, ◌≤◌, ◌⊎◌, List, [], ◌∷◌, length, get_or, take, sym, refl, ap, ◌∙◌, subst, ap₂, inl, inr, arith}
+use Rattle.std.proofs.Common.{◌≡◌, ℕ, suc, ◌<◌, List, [], ◌∷◌, length, get_or, take, sym, refl, ap, ◌∙◌, subst, ap₂, arith}
 use Rattle.std.proofs.lemmas.List.{length-take-le}
-use Rattle.words.specs.Harm.{harm}
 use Rattle.chains.specs.Model.{ChainModel}
 use Rattle.codes.specs.Model.{CodeModel, Message}
-use Rattle.pile_laws.specs.Build.{columns, encoded, joined_bits, laid, stage_messages, stage_words}
+use Rattle.pile_laws.specs.Build.{columns, encoded, joined_bits, laid, stage_words}
 use Rattle.pile_laws.specs.Pile.{pile}
 use Rattle.pile_laws.specs.Stages.{Choices, code_at, no_code}
 use Rattle.pile_laws.proofs.Fitting.{code_after}

@@ -1,9 +1,9 @@
 -- The reach is the least of the stages' inner times outer distances. Assumes nothing.
-use Rattle.std.proofs.Common.{◌≡◌, ℕ, zero, suc, ◌+◌, ◌*◌, ◌<◌, ◌≤◌, min, List, [], ◌∷◌, length, get_or, sym, refl, ap, ◌∙◌, arith}
+use Rattle.std.proofs.Common.{◌≡◌, ℕ, zero, suc, ◌+◌, ◌*◌, ◌<◌, ◌≤◌, min, List, [], ◌∷◌, length, get_or, refl, ap, ◌∙◌, arith}
 use native.Mathlib.Nat.{one-le-mul}
 use Rattle.std.specs.List.{AllByRecursion as All}
 use Rattle.chains.specs.Model.{ChainModel, LawfulChain}
-use Rattle.codes.specs.Model.{CodeModel, Lawful}
+use Rattle.codes.specs.Model.{CodeModel}
 use Rattle.pile_laws.specs.Build.{least, reach, smallest, stage_reaches}
 use Rattle.pile_laws.specs.Fit.{EachLawful}
 use Rattle.pile_laws.specs.Stages.{no_code}

@@ -1,11 +1,11 @@
 -- The labels that the stages' codewords have in a column are a row of the chain. Assumes nothing.
-use Rattle.std.proofs.Common.{◌≡◌, ℕ, zero, suc, ◌+◌, ◌-◌, ◌*◌, ◌^◌, ◌<◌, ◌≤◌, List, [], ◌∷◌, ◌++◌, length, get_or, take, sym, refl, ap, ◌∙◌, subst, ap₂, mul-suc, arith}
+use Rattle.std.proofs.Common.{◌≡◌, ℕ, zero, suc, ◌+◌, ◌*◌, ◌^◌, ◌<◌, ◌≤◌, List, [], ◌∷◌, length, get_or, take, sym, refl, ap, ◌∙◌, subst, mul-suc, arith}
 use Rattle.std.specs.List.{AllByRecursion as All}
 use Rattle.std.proofs.ByRecursion.{All-append, All-get_or}
-use Rattle.std.proofs.lemmas.List.{get_or-map, get_or-take, length-append, length-map, take-map}
-use Rattle.chains.specs.Model.{ChainModel, LawfulChain, LabelsFrom, Row, before}
-use Rattle.codes.specs.Model.{CodeModel, Lawful, Message, Symbols}
-use Rattle.pile_laws.specs.Build.{columns, encoded, labels_at, laid_from}
+use Rattle.std.proofs.lemmas.List.{get_or-map, length-append, length-map, take-map}
+use Rattle.chains.specs.Model.{ChainModel, LawfulChain, LabelsFrom, Row}
+use Rattle.codes.specs.Model.{CodeModel, Message, Symbols}
+use Rattle.pile_laws.specs.Build.{encoded, labels_at, laid_from}
 use Rattle.pile_laws.specs.Fit.{EachLawful}
 use Rattle.pile_laws.specs.Stages.{no_code}
 use Rattle.pile_laws.proofs.Columns.{row_word}

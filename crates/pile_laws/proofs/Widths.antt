@@ -1,19 +1,17 @@
 -- The labels of a chain have no more bits together than it has cells, since different rows have different words. Assumes nothing.
-use Rattle.std.proofs.Common.{◌≡◌, ℕ, zero, suc, ◌+◌, ◌-◌, ◌*◌, ◌%◌, ◌^◌, ◌<◌, ◌≤◌, eqb, ◌⊎◌, List, [], ◌∷◌, map, length, get_or, take, sym, refl, ap, ◌∙◌, subst, ap₂, inl, inr, ⊎_elim, mod-eq_of_lt, mul_comm, mul-le-mul, mul-le-mul_left, mul-add, arith}
-use Rattle.std.specs.List.{AllByRecursion as All}
-use Rattle.std.proofs.lemmas.List.{length-map}
+use Rattle.std.proofs.Common.{◌≡◌, ℕ, suc, ◌-◌, ◌*◌, ◌^◌, ◌<◌, ◌≤◌, List, [], ◌∷◌, map, length, get_or, take, sym, refl, ap, ◌∙◌, subst, ⊎_elim, mod-eq_of_lt, mul_comm, mul-le-mul, mul-le-mul_left, mul-add, arith}
 use Rattle.std.proofs.lemmas.Bool.{eq-eqb}
 use Rattle.algebra.specs.Sums.{Injective}
 use Rattle.algebra.proofs.Sums.{pigeonhole_pow}
 use Rattle.words.specs.Distance.{differences}
 use Rattle.chains.specs.Bits.{bits_of, spelled, total}
-use Rattle.chains.specs.Model.{ChainModel, LawfulChain, LabelsFrom, Row, Stage, FirstDiffer, before, at_stage}
+use Rattle.chains.specs.Model.{ChainModel, LawfulChain, LabelsFrom, Row, Stage, FirstDiffer}
 use Rattle.chains.specs.ReedMuller.{row_bits}
 use Rattle.chains.specs.FromLaw.{DifferFrom, same_or_differ}
 use Rattle.chains.specs.RowBits.{Fit, cut, length_cut, cut_fits, row_bits_cut}
 use Rattle.chains.specs.Spelling.{length_bits, bits_small, spelled_bits, spelled_small, bits_spelled}
-use Rattle.codes.specs.Model.{CodeModel, Lawful}
-use Rattle.pile_laws.specs.Build.{total_bits, stage_bits}
+use Rattle.codes.specs.Model.{CodeModel}
+use Rattle.pile_laws.specs.Build.{total_bits}
 use Rattle.pile_laws.specs.Fit.{EachLawful}
 use Rattle.pile_laws.proofs.Fitting.{Fitting, fitting_length}
 

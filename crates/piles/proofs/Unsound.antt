@@ -1,5 +1,5 @@
 -- The first code that is not sound. Assumes nothing.
-use Rattle.std.proofs.Common.{◌≡◌, ℕ, zero, suc, ◌<◌, ◌⊎◌, List, [], ◌∷◌, length, get_or, take, subst, inl, inr, arith}
+use Rattle.std.proofs.Common.{ℕ, zero, suc, ◌<◌, List, [], ◌∷◌, length, get_or, take, inl, inr, arith}
 use Rattle.std.specs.List.{AllByRecursion as All}
 use Rattle.words.specs.declared.fault.Fault.{Fault}
 use Rattle.piles.specs.Sound.{FirstUnsound}

@@ -1,5 +1,5 @@
 -- The chain and the codes that a recipe names make a pile with the recipe's numbers. Assumes nothing.
-use Rattle.std.proofs.Common.{◌≡◌, ℕ, zero, suc, ◌+◌, ◌*◌, ◌<◌, ◌≤◌, min, true, cond, leb, List, [], ◌∷◌, map, length, get_or, Some, None, sum_by, Option, sym, refl, ap, ◌∙◌, subst, ap₂, arith}
+use Rattle.std.proofs.Common.{◌≡◌, ℕ, suc, ◌+◌, ◌*◌, ◌<◌, ◌≤◌, min, cond, leb, List, [], ◌∷◌, map, length, get_or, Some, None, sum_by, Option, sym, refl, ap, ◌∙◌, subst, ap₂, arith}
 use mathlib.Core.Logic.{∥∥₁_elim}
 use native.Mathlib.Bridge.{le_prop}
 use Rattle.std.specs.List.{AllByRecursion as All}
@@ -13,17 +13,17 @@ use Rattle.recipes.specs.declared.kinds.ChainKind.{ChainKind}
 use Rattle.recipes.specs.declared.table.Stage.{Stage}
 use Rattle.recipes.specs.declared.table.Table.{Table}
 use Rattle.recipes.specs.Chains.{Known, stages_of}
-use Rattle.recipes.specs.Meaning.{Lawful, stage_at}
+use Rattle.recipes.specs.Meaning.{Lawful}
 use Rattle.recipes.specs.Stages.{blank}
 use Rattle.recipes.specs.Totals as totals
 use Rattle.recipes.specs.Totals.{used_stages, page_cells, message_bits, reach_of, stage_reach}
 use Rattle.recipes.proofs.Bounds.{known_chain, cells_within, length_used, some_used}
 use Rattle.recipes.proofs.Filling.{few_columns}
 use Rattle.recipes.proofs.Triangle.{width_small}
-use Rattle.pile_laws.specs.Build.{columns, least, smallest, reach, stage_bits, stage_reaches, total_bits}
+use Rattle.pile_laws.specs.Build.{columns, least, smallest, stage_reaches, total_bits}
 use Rattle.pile_laws.specs.Fit.{Fits, fits_stage, unfit_from}
 use Rattle.recipe_pile_laws.specs.Named.{named_chain, stage_code, table_codes}
-use Rattle.recipe_pile_laws.specs.Numbers.{ChainNumbers, Makeable, PageNumbers, PileDescribed}
+use Rattle.recipe_pile_laws.specs.Numbers.{ChainNumbers, Makeable, PileDescribed}
 use Rattle.recipe_pile_laws.proofs.Chains.{chain_numbers}
 use Rattle.recipe_pile_laws.proofs.Codes.{Numbered, code_numbers, some_width, table_numbered}
 

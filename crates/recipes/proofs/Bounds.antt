@@ -1,5 +1,5 @@
 -- The numbers of a lawful table are small. Assumes nothing.
-use Rattle.std.proofs.Common.{◌≡◌, ℕ, ◌+◌, ◌*◌, ◌^◌, ◌<◌, ◌≤◌, true, false, length, get_or, sym, refl, ap, ◌∙◌, subst, mul-le-mul, arith, pow_mono}
+use Rattle.std.proofs.Common.{◌≡◌, ℕ, ◌*◌, ◌<◌, ◌≤◌, length, get_or, sym, ap, subst, mul-le-mul, arith, pow_mono}
 use mathlib.Core.HLevel.{×_prop}
 use mathlib.Core.Logic.{∥∥₁_elim}
 use native.Mathlib.Bridge.{le_prop}
@@ -14,7 +14,7 @@ use Rattle.recipes.specs.declared.kinds.CodeKind.TheVariants.{Open, ReedSolomon,
 use Rattle.recipes.specs.declared.table.Stage.{Stage}
 use Rattle.recipes.specs.declared.table.Table.{Table}
 use Rattle.recipes.specs.Chains.{Known, cells_of, stages_of, width_at, distance_at}
-use Rattle.recipes.specs.Codes.{outer_distance, fits_kind}
+use Rattle.recipes.specs.Codes.{outer_distance}
 use Rattle.recipes.specs.Meaning.{stage_at, Lawful}
 use Rattle.recipes.specs.Stages.{blank}
 use Rattle.recipes.specs.Totals.{Bounded, used_stages, stage_bits, stage_reach}

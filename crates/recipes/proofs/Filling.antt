@@ -1,9 +1,8 @@
 -- A table while its stages are read, one after the other. Assumes nothing.
-use Rattle.std.proofs.Common.{◌≡◌, ℕ, suc, ◌+◌, ◌-◌, ◌*◌, ◌^◌, ◌<◌, ◌≤◌, true, false, ◌≢◌, ◌⊎◌, List, [], ◌∷◌, ◌++◌, length, get_or, set, replicate, Some, None, Option, sym, refl, ap, ◌∙◌, subst, subst₂, inl, inr, ⊎_elim, mul-le-mul_right, one-mul, arith, pow_pos}
-use Rattle.std.proofs.lemmas.List.{length-set, length-replicate, get_or-set_same, get_or-set_other, get_or-replicate, get_or_past}
-use Rattle.std.proofs.lemmas.Bool.{cases_lt, cases_order}
+use Rattle.std.proofs.Common.{◌≡◌, ℕ, ◌+◌, ◌*◌, ◌<◌, ◌≤◌, true, ◌≢◌, List, length, get_or, set, replicate, sym, refl, ap, ◌∙◌, subst, subst₂, ⊎_elim, mul-le-mul_right, one-mul, arith, pow_pos}
+use Rattle.std.proofs.lemmas.List.{length-set, get_or-set_same, get_or-set_other, get_or-replicate, get_or_past}
+use Rattle.std.proofs.lemmas.Bool.{cases_lt}
 use Rattle.std.proofs.lemmas.Bool.Decides.{nat_tests}
-use Rattle.words.specs.Buffers.{either}
 use Rattle.recipes.specs.declared.kinds.ChainKind.{ChainKind}
 use Rattle.recipes.specs.declared.kinds.ChainKind.TheVariants.{ReedMuller, Even}
 use Rattle.recipes.specs.declared.kinds.CodeKind.{CodeKind}
@@ -12,7 +11,7 @@ use Rattle.recipes.specs.declared.table.Stage.{Stage}
 use Rattle.recipes.specs.declared.table.Table.{Table}
 use Rattle.recipes.specs.Chains.{Known, cells_of, stages_of}
 use Rattle.recipes.specs.Codes.{fits_kind}
-use Rattle.recipes.specs.Meaning.{stage_at, Lawful, LawfulStage, SpelledStage, Describes}
+use Rattle.recipes.specs.Meaning.{stage_at, LawfulStage, SpelledStage, Describes}
 use Rattle.recipes.specs.Rules.{Headed}
 use Rattle.recipes.specs.Stages.{blank}
 use Rattle.recipes.proofs.Naming.{chain_of_byte}

@@ -1,5 +1,5 @@
 -- A byte that names a chain or a kind is the byte of what it names. Assumes nothing.
-use Rattle.std.proofs.Common.{◌≡◌, ℕ, ◌+◌, ◌-◌, ◌%◌, ◌≤◌, Bool, true, false, cond, ◌&&◌, eqb, leb, Some, None, Option, sym, refl, ap, ◌∙◌, arith}
+use Rattle.std.proofs.Common.{◌≡◌, ℕ, true, Some, refl, arith}
 use Rattle.std.proofs.lemmas.Bool.Decides.{nat_tests}
 use Rattle.recipes.specs.declared.kinds.ChainKind.{ChainKind}
 use Rattle.recipes.specs.declared.kinds.ChainKind.TheVariants.{ReedMuller, Even}

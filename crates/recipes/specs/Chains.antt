@@ -1,5 +1,5 @@
 -- The chains that a recipe can name: their byte, cells, stages, label widths and distances. Assumes nothing.
-use Rattle.std.specs.Prelude.{ℕ, zero, suc, ◌+◌, ◌-◌, ◌*◌, ◌^◌, ◌≤◌, cond, ◌&&◌, Some, None, Option, ◌==◌, nat_le}
+use Rattle.std.specs.Prelude.{ℕ, zero, suc, ◌+◌, ◌-◌, ◌^◌, ◌≤◌, cond, ◌&&◌, Some, None, Option, ◌==◌, nat_le}
 use Rattle.recipes.specs.declared.kinds.ChainKind.{ChainKind}
 use Rattle.recipes.specs.declared.kinds.ChainKind.TheVariants.{ReedMuller, Even}
 

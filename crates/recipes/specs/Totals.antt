@@ -1,5 +1,5 @@
 -- What a table comes to as a whole. Assumes nothing.
-use Rattle.std.specs.Prelude.{ℕ, ◌+◌, ◌*◌, ◌/◌, ◌≤◌, min, List, [], ◌∷◌, map, take, sum_by}
+use Rattle.std.specs.Prelude.{ℕ, ◌*◌, ◌≤◌, min, List, [], ◌∷◌, map, take, sum_by}
 use Rattle.recipes.specs.declared.table.Stage.{Stage}
 use Rattle.recipes.specs.declared.table.Table.{Table}
 use Rattle.recipes.specs.Chains.{cells_of, stages_of}

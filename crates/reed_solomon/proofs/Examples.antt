@@ -1,6 +1,6 @@
 -- The worked example, by computing it. Assumes nothing.
-use Rattle.std.proofs.Common.{◌≡◌, ℕ, List, [], ◌∷◌, refl, lit<}
-use Rattle.field_laws.specs.Polynomials.{polynomial, gate, double, times, seek}
+use Rattle.std.proofs.Common.{[], ◌∷◌, refl, lit<}
+use Rattle.field_laws.specs.Polynomials.{gate, double, times, seek}
 use Rattle.reed_solomon.specs.Examples.{ReedSolomonExample}
 
 pub reed_solomon_example : ReedSolomonExample

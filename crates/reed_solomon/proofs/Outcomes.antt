@@ -1,24 +1,22 @@
 -- What two guesses and the key equation between them come to. Assumes nothing.
-use Rattle.std.proofs.Common.{◌≡◌, ℕ, ◌+◌, ◌-◌, ◌^◌, ◌<◌, ◌≤◌, min, List, length, get_or, take, None, Ok, Err, Result, sym, refl, ap, ◌∙◌, subst, arith, MatchResult}
+use Rattle.std.proofs.Common.{◌≡◌, ℕ, ◌+◌, ◌-◌, ◌^◌, ◌<◌, ◌≤◌, min, List, length, take, None, Ok, Err, Result, sym, refl, ap, ◌∙◌, subst, arith}
 use Rattle.std.specs.List.{AllByRecursion as All}
 use Rattle.std.proofs.ByRecursion.{All-from_get_or}
 use Rattle.words.specs.declared.fault.Fault.{Fault}
-use Rattle.words.specs.declared.fault.Kind.TheVariants.{NoCodeword}
 use Rattle.words.specs.declared.fault.Layer.TheVariants.{Code}
 use Rattle.words.specs.Buffers.{answered, refusal}
-use Rattle.words.specs.Faults.{fault}
 use Rattle.words.specs.Harm.{harm, harm_buffers}
 use Rattle.words.proofs.Passes.{none_from_fits}
-use Rattle.field_laws.specs.Fields.{FieldModel, FieldLaws, size}
-use Rattle.codes.specs.Model.{CodeModel, Message, Near, Symbols}
+use Rattle.field_laws.specs.Fields.{FieldModel, FieldLaws}
+use Rattle.codes.specs.Model.{Near, Symbols}
 use Rattle.codes.specs.Promises.{Corrected}
 use Rattle.codes.proofs.Working.{correct_buffers, corrected, uncorrected}
 use Rattle.reed_solomon_laws.specs.Words.{Codeword, InKind, reed_solomon}
 use Rattle.reed_solomon_laws.proofs.Laws.{beginning, codeword_begun, codeword_is, begins_with}
-use Rattle.reed_solomon_laws.proofs.Arrays.{Below, Interpolated, Located}
+use Rattle.reed_solomon_laws.proofs.Arrays.{Below}
 use Rattle.reed_solomon_laws.proofs.Nearest.{interpolated_codeword, found_again}
 use Rattle.reed_solomon_laws.proofs.Numbers.{size_most}
-use Rattle.reed_solomon.specs.Finding.{Received, Guessed, Found, Replaced, reach}
+use Rattle.reed_solomon.specs.Finding.{Received, Guessed, Found, Replaced}
 use Rattle.reed_solomon.specs.Passes.{Rightful}
 
 -- elements are bytes

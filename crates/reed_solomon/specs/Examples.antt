@@ -1,5 +1,5 @@
 -- The code of eight symbols for two over the polynomial field of width 3. Assumes nothing.
-use Rattle.std.specs.Prelude.{◌≡◌, ℕ, [], ◌∷◌, replicate, Ok}
+use Rattle.std.specs.Prelude.{◌≡◌, [], ◌∷◌, replicate, Ok}
 use Rattle.field_laws.specs.Polynomials.{polynomial}
 use Rattle.codes.specs.Promises.{Corrected}
 use Rattle.reed_solomon_laws.specs.Words.{reed_solomon}

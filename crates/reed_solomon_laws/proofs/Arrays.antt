@@ -1,18 +1,16 @@
 -- What the program's arrays hold, in terms of the field's elements, and how each step keeps it. Assumes nothing.
-use Rattle.std.proofs.Common.{◌≡◌, ℕ, suc, ◌+◌, ◌*◌, ◌<◌, ◌≤◌, min, Bool, true, false, not, ◌&&◌, eqb, ltb, ◌≢◌, ◌⊎◌, ◌↔◌, List, length, get_or, Some, None, sym, refl, ap, ◌∙◌, subst, ap₂, inl, inr, add-one, arith}
+use Rattle.std.proofs.Common.{◌≡◌, ℕ, ◌+◌, ◌*◌, ◌<◌, ◌≤◌, Bool, true, false, not, ◌&&◌, eqb, ltb, List, get_or, Some, sym, refl, ap, ◌∙◌, subst, inl, inr, add-one, arith}
 use native.Mathlib.Decide.{dec_lt}
-use Rattle.std.proofs.lemmas.Bool.{eqb-true, eqb-false, eq-eqb, ne_eqb, lt-ltb, le-ltb, ltb-true, true≢false}
-use Rattle.algebra.specs.Field.{Ring, Field}
+use Rattle.std.proofs.lemmas.Bool.{lt-ltb, le-ltb, true≢false}
 use Rattle.algebra.specs.Newton.{Newton}
 use Rattle.algebra.specs.Sums.{count}
 use Rattle.algebra.proofs.Newton.{newton_same}
 use Rattle.field_laws.specs.Fields.{FieldModel, FieldLaws, size}
 use Rattle.field_laws.proofs.Elements.{Element, zero_of, one_of, sum_of, product_of, field_of}
-use Rattle.reed_solomon_laws.specs.KeyEquation.{gap, combined, rooted}
 use Rattle.reed_solomon_laws.proofs.Codewords.{Elements, numbers_more, numbers_none}
 use Rattle.reed_solomon_laws.proofs.Counts.{readable, early, count_early}
-use Rattle.reed_solomon_laws.proofs.Numbers.{element, element_zero, element_one, not_zero, same_number, element_sum, element_product, element_inverse, places_apart, reciprocal_there}
-use Rattle.reed_solomon_laws.proofs.State.{State, Solved, state_first, state_same, second_misses, first_pivot, second_pivot, solved_first, solved_second}
+use Rattle.reed_solomon_laws.proofs.Numbers.{element, element_zero}
+use Rattle.reed_solomon_laws.proofs.State.{State, Solved}
 
 -- the elements that an array holds
 abbrev pub at : (f : FieldModel) (laws : FieldLaws f) → List ℕ → ℕ → Element f

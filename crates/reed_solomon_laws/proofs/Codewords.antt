@@ -1,26 +1,23 @@
 -- The codewords of a Reed-Solomon code, and its distance. Assumes nothing.
-use Rattle.std.proofs.Common.{◌≡◌, ℕ, zero, suc, ◌+◌, ◌-◌, ◌^◌, ◌<◌, ◌≤◌, Bool, true, false, cond, not, ◌&&◌, eqb, ◌≢◌, ◌⊎◌, ◌↔◌, List, [], ◌∷◌, ◌++◌, map, length, get_or, take, replicate, Some, None, unwrap_or, sym, refl, ap, ◌∙◌, subst, ap₂, inl, inr, zero-add, add-one, arith, length-append}
-use native.Mathlib.Decide.{dec_lt, dec_le}
+use Rattle.std.proofs.Common.{◌≡◌, ℕ, zero, suc, ◌+◌, ◌-◌, ◌<◌, ◌≤◌, eqb, ◌⊎◌, ◌↔◌, List, [], ◌∷◌, ◌++◌, map, length, get_or, replicate, Some, unwrap_or, sym, refl, ap, ◌∙◌, subst, ap₂, inl, inr, zero-add, add-one, arith, length-append}
+use native.Mathlib.Decide.{dec_lt}
 use lib.ListN.{length-map}
-use Rattle.std.specs.List.{range_with_len, AllByRecursion as All}
+use Rattle.std.specs.List.{AllByRecursion as All}
 use Rattle.std.proofs.lemmas.List.FromFn.{length-map-range_with_len, get_or-map-range_with_len}
-use Rattle.std.proofs.ByRecursion.{All-from_get_or, All-get_or, All-map}
-use Rattle.std.proofs.lemmas.List.{ext_get_or, get_or-take, length-take-le, length-replicate}
-use Rattle.algebra.specs.Field.{Ring, Field, same}
+use Rattle.std.proofs.lemmas.List.{ext_get_or, length-replicate}
+use Rattle.algebra.specs.Field.{Field, same}
 use Rattle.algebra.specs.Newton.{Newton, correction, next_interpolant, next_product}
-use Rattle.algebra.specs.Places.{Polynomial, agreements}
+use Rattle.algebra.specs.Places.{Polynomial}
 use Rattle.algebra.specs.Poly as poly
-use Rattle.algebra.specs.Sums.{Injective, count}
+use Rattle.algebra.specs.Sums.{count}
 use Rattle.algebra.proofs.Field.{add-zero, mul-zero}
 use Rattle.algebra.proofs.Newton.{newton_none, newton_same, newton_more}
-use Rattle.algebra.proofs.Places.{same_at_places, unique_through}
+use Rattle.algebra.proofs.Places.{same_at_places}
 use Rattle.field_laws.specs.Fields.{FieldModel, FieldLaws, size}
-use Rattle.field_laws.proofs.Elements.{Element, element_path, zero_of, one_of, sum_of, product_of, ring_of, field_of}
-use Rattle.words.specs.Distance.{differences}
-use Rattle.codes.specs.Model.{CodeModel, Lawful, Message, Symbols}
-use Rattle.reed_solomon_laws.specs.Words.{row, value, Codeword, through, reed_solomon, InKind, Systematic}
-use Rattle.reed_solomon_laws.proofs.Counts.{count_same, differences_count}
-use Rattle.reed_solomon_laws.proofs.Numbers.{element, element_is, number_is, same_number, element_sum, element_product, element_zero, element_one, not_zero, places_apart, reciprocal_there, element_inverse, same_numbers}
+use Rattle.field_laws.proofs.Elements.{Element, zero_of, one_of, sum_of, product_of, ring_of, field_of}
+use Rattle.reed_solomon_laws.specs.Words.{row, value, Codeword, through}
+use Rattle.reed_solomon_laws.proofs.Counts.{count_same}
+use Rattle.reed_solomon_laws.proofs.Numbers.{element, element_is, same_number, element_sum, element_product, element_zero, element_one, places_apart, reciprocal_there, element_inverse, same_numbers}
 
 -- numbers that are all elements at the first n places
 abbrev pub Elements : FieldModel → ℕ → (ℕ → ℕ) → Type 0

@@ -1,13 +1,13 @@
 -- Why a pair that meets the key equation at every readable place shows which places are right. Assumes nothing.
-use Rattle.std.proofs.Common.{◌≡◌, ℕ, ◌+◌, ◌-◌, ◌<◌, ◌≤◌, Bool, true, false, not, ◌&&◌, ◌≢◌, ◌⊎◌, List, [], ◌∷◌, sym, refl, ap, ◌∙◌, subst, ap₂, inl, inr, arith}
+use Rattle.std.proofs.Common.{◌≡◌, ℕ, ◌+◌, ◌-◌, ◌<◌, ◌≤◌, Bool, true, not, ◌&&◌, ◌≢◌, [], ◌∷◌, sym, ap, ◌∙◌, arith}
 use native.Mathlib.Decide.{dec_lt}
 use Rattle.std.proofs.lemmas.Bool.{and_parts, not-true, true≢false}
 use Rattle.algebra.specs.Field.{Field, same}
 use Rattle.algebra.specs.Places.{Polynomial, zeros}
-use Rattle.algebra.specs.Ring.{𝟘, 𝟙, ◌⊕◌, ◌⊗◌}
+use Rattle.algebra.specs.Ring.{𝟘, ◌⊕◌, ◌⊗◌}
 use Rattle.algebra.specs.Sums.{Injective, count}
-use Rattle.algebra.proofs.Field.{mul-zero, zero-mul, add-zero, same_from_zero, zero_from_same, other_zero, same_true, eq_same}
-use Rattle.algebra.proofs.Places.{polynomial_same, polynomial_weaken, polynomial_add, polynomial_mul, zero_at_places, few_zeros}
+use Rattle.algebra.proofs.Field.{mul-zero, same_from_zero, zero_from_same, other_zero, same_true, eq_same}
+use Rattle.algebra.proofs.Places.{polynomial_weaken, polynomial_add, polynomial_mul, zero_at_places}
 use Rattle.algebra.proofs.Ring.{by_ring}
 use Rattle.algebra.proofs.Sums.{count_mono, count_split}
 

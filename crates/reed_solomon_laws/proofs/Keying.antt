@@ -1,14 +1,13 @@
 -- One place more in the program's key equation. Assumes nothing.
-use Rattle.std.proofs.Common.{◌≡◌, ℕ, suc, ◌+◌, ◌*◌, ◌<◌, ◌≤◌, min, Bool, true, false, not, ◌&&◌, eqb, ltb, ◌≢◌, ◌⊎◌, ◌↔◌, List, length, get_or, Some, None, sym, refl, ap, ◌∙◌, subst, ap₂, inl, inr, add-one, arith}
+use Rattle.std.proofs.Common.{◌≡◌, ℕ, ◌+◌, ◌<◌, ◌≤◌, true, false, ◌≢◌, ◌⊎◌, ◌↔◌, List, get_or, sym, refl, ap, ◌∙◌, subst, ap₂, inl, inr, add-one, arith}
 use native.Mathlib.Decide.{dec_lt}
 use Rattle.std.proofs.lemmas.Bool.{true≢false}
-use Rattle.algebra.specs.Field.{Ring, Field}
 use Rattle.algebra.specs.Sums.{count}
 use Rattle.field_laws.specs.Fields.{FieldModel, FieldLaws, size}
 use Rattle.field_laws.proofs.Elements.{Element, zero_of, one_of, sum_of, product_of, field_of}
 use Rattle.reed_solomon_laws.specs.KeyEquation.{gap, combined, rooted}
 use Rattle.reed_solomon_laws.proofs.Arrays.{at, Below, passes, Passed, target, Keyed, Quotient, miss, Eliminated, Located}
-use Rattle.reed_solomon_laws.proofs.Numbers.{element, element_zero, element_one, not_zero, same_number, element_sum, element_product, element_inverse, places_apart, reciprocal_there}
+use Rattle.reed_solomon_laws.proofs.Numbers.{element, element_zero, element_one, not_zero, element_sum, element_product, element_inverse, places_apart, reciprocal_there}
 use Rattle.reed_solomon_laws.proofs.State.{State, state_first, state_same, second_misses, first_pivot, second_pivot, solved_first, solved_second}
 
 module _ (f : FieldModel) (laws : FieldLaws f) (n : ℕ) (small : n ≤ size f) (word marks g p : List ℕ) where

@@ -1,21 +1,18 @@
 -- The codeword of a message is the one that begins with it, and the code is lawful. Assumes nothing.
-use Rattle.std.proofs.Common.{◌≡◌, ℕ, ◌+◌, ◌-◌, ◌<◌, ◌≤◌, Bool, true, cond, eqb, List, length, get_or, take, sym, refl, ap, ◌∙◌, subst, ap₂, arith, pow_mono}
+use Rattle.std.proofs.Common.{◌≡◌, ℕ, ◌+◌, ◌-◌, ◌<◌, ◌≤◌, Bool, cond, eqb, List, length, get_or, take, sym, ap, ◌∙◌, subst, arith, pow_mono}
 use native.Mathlib.Decide.{dec_lt}
-use Rattle.std.specs.List.{AllByRecursion as All}
 use Rattle.std.proofs.ByRecursion.{All-from_get_or, All-get_or}
 use Rattle.std.proofs.lemmas.List.{ext_get_or, get_or-take, length-take-le}
 use Rattle.std.proofs.lemmas.Bool.{eq-eqb}
-use Rattle.algebra.specs.Newton.{Newton}
 use Rattle.algebra.specs.Sums.{count}
 use Rattle.algebra.proofs.Sums.{total_split, count_all}
 use Rattle.field_laws.specs.Fields.{FieldModel, FieldLaws, size}
-use Rattle.field_laws.proofs.Elements.{field_of}
 use Rattle.words.specs.Distance.{differences}
-use Rattle.codes.specs.Model.{CodeModel, Lawful, Message, Symbols}
-use Rattle.reed_solomon_laws.specs.Words.{row, value, Codeword, through, reed_solomon, InKind, Systematic}
+use Rattle.codes.specs.Model.{Lawful, Symbols}
+use Rattle.reed_solomon_laws.specs.Words.{Codeword, through, reed_solomon, InKind, Systematic}
 use Rattle.reed_solomon_laws.proofs.Counts.{differences_count}
-use Rattle.reed_solomon_laws.proofs.Numbers.{element, same_number}
-use Rattle.reed_solomon_laws.proofs.Codewords.{Elements, get_or_row, length_row, row_is, through_first, codeword_from, codeword_elements, same_codewords}
+use Rattle.reed_solomon_laws.proofs.Numbers.{same_number}
+use Rattle.reed_solomon_laws.proofs.Codewords.{Elements, get_or_row, length_row, through_first, codeword_from, codeword_elements, same_codewords}
 
 pub count_longer : (test : ℕ → Bool) (m n : ℕ) → m ≤ n → count test m ≤ count test n
 count_longer test m n l =

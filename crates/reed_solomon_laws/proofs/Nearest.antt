@@ -1,23 +1,22 @@
 -- What the interpolations and the key equation give of the nearest codeword. Assumes nothing.
-use Rattle.std.proofs.Common.{◌≡◌, ℕ, suc, ◌+◌, ◌-◌, ◌*◌, ◌<◌, ◌≤◌, min, Bool, true, false, not, ◌&&◌, eqb, ltb, ◌≢◌, ◌⊎◌, ◌↔◌, List, [], ◌∷◌, length, get_or, sym, refl, ap, ◌∙◌, subst, ap₂, inl, inr, arith}
+use Rattle.std.proofs.Common.{◌≡◌, ℕ, ◌+◌, ◌-◌, ◌*◌, ◌<◌, ◌≤◌, true, false, not, ◌&&◌, eqb, List, [], ◌∷◌, length, get_or, sym, refl, ap, ◌∙◌, subst, inl, inr, arith}
 use Rattle.std.proofs.lemmas.Bool.{cases_Bool, lt-ltb, eqb-true, eqb-false, eq-eqb, and_parts, and_from, true≢false, not_from_true, not_from_false, not-true}
-use Rattle.algebra.specs.Field.{Ring, Field, same}
-use Rattle.algebra.specs.Newton.{Newton}
+use Rattle.algebra.specs.Field.{same}
 use Rattle.algebra.specs.Places.{Polynomial}
-use Rattle.algebra.specs.Ring.{𝟘, 𝟙, ◌⊕◌, ◌⊗◌}
+use Rattle.algebra.specs.Ring.{◌⊗◌}
 use Rattle.algebra.specs.Sums.{count}
-use Rattle.algebra.proofs.Field.{mul-zero, zero-mul, zero_from_same}
+use Rattle.algebra.proofs.Field.{zero-mul, zero_from_same}
 use Rattle.algebra.proofs.Ring.{by_ring}
 use Rattle.algebra.proofs.Sums.{count_all, count_mono, count_split, count_found}
 use Rattle.field_laws.specs.Fields.{FieldModel, FieldLaws, size}
-use Rattle.field_laws.proofs.Elements.{Element, zero_of, one_of, sum_of, product_of, ring_of, field_of}
+use Rattle.field_laws.proofs.Elements.{Element, zero_of, sum_of, product_of, ring_of, field_of}
 use Rattle.words.specs.Harm.{harm}
-use Rattle.codes.specs.Model.{CodeModel, Symbols}
+use Rattle.codes.specs.Model.{Symbols}
 use Rattle.std.proofs.ByRecursion.{All-get_or}
-use Rattle.reed_solomon_laws.specs.Words.{row, Codeword, InKind, reed_solomon}
+use Rattle.reed_solomon_laws.specs.Words.{Codeword, InKind, reed_solomon}
 use Rattle.reed_solomon_laws.proofs.Laws.{the_codeword}
-use Rattle.reed_solomon_laws.proofs.Arrays.{at, Below, Chosen, Interpolated, passes, Passed, target, Located}
-use Rattle.reed_solomon_laws.proofs.Codewords.{Elements, row_is, codeword_from, codeword_polynomial, codeword_elements, same_codewords}
+use Rattle.reed_solomon_laws.proofs.Arrays.{at, Below, Chosen, Interpolated, passes, Passed, Located}
+use Rattle.reed_solomon_laws.proofs.Codewords.{row_is, codeword_from, codeword_polynomial, codeword_elements, same_codewords}
 use Rattle.reed_solomon_laws.proofs.Complete.{right_where, enough_right}
 use Rattle.reed_solomon_laws.proofs.Counts.{readable, right, early, count_early, count_same, harm_count}
 use Rattle.reed_solomon_laws.proofs.Numbers.{element, element_zero, not_zero, same_number, same_numbers, places_apart}

@@ -1,12 +1,12 @@
 -- Numbers below the size of a lawful field as its elements, and their arithmetic. Assumes nothing.
-use Rattle.std.proofs.Common.{◌≡◌, ℕ, zero, suc, ◌+◌, ◌<◌, ◌≤◌, Bool, true, false, eqb, ◌≢◌, ◌⊎◌, Some, None, unwrap_or, sym, refl, ap, ◌∙◌, subst, ap₂, inl, inr, arith, pow_mono}
+use Rattle.std.proofs.Common.{◌≡◌, ℕ, ◌<◌, ◌≤◌, true, false, eqb, ◌≢◌, ◌⊎◌, Some, None, sym, refl, ap, ◌∙◌, subst, ap₂, inl, inr, arith, pow_mono}
 use native.Mathlib.Decide.{dec_lt}
-use Rattle.algebra.specs.Field.{Ring, Field, same}
+use Rattle.algebra.specs.Field.{same}
 use Rattle.algebra.specs.Sums.{Injective}
-use Rattle.algebra.proofs.Field.{mul_cancel, same_true, eq_same, ne_same}
+use Rattle.algebra.proofs.Field.{mul_cancel, eq_same, ne_same}
 use Rattle.field_laws.specs.Fields.{FieldModel, FieldLaws, size}
-use Rattle.field_laws.proofs.Elements.{Element, element_path, zero_of, one_of, sum_of, product_of, ring_of, field_of}
-use Rattle.std.proofs.lemmas.Bool.{eqb-true, eq-eqb, ne_eqb, eqb-false, cases_Bool}
+use Rattle.field_laws.proofs.Elements.{Element, element_path, zero_of, one_of, sum_of, product_of, field_of}
+use Rattle.std.proofs.lemmas.Bool.{eqb-true, eqb-false, cases_Bool}
 
 module _ (f : FieldModel) (laws : FieldLaws f) where
   pub size_most : size f ≤ 256

@@ -1,5 +1,5 @@
 -- The two pairs of the key equation together, one place after the other. Assumes nothing.
-use Rattle.std.proofs.Common.{◌≡◌, ℕ, ◌+◌, ◌<◌, ◌≤◌, ◌≢◌, ◌⊎◌, ◌↔◌, [], ◌∷◌, sym, refl, ap, ◌∙◌, subst, ap₂, inl, inr, arith}
+use Rattle.std.proofs.Common.{◌≡◌, ℕ, ◌+◌, ◌<◌, ◌≤◌, ◌≢◌, ◌⊎◌, ◌↔◌, [], ◌∷◌, ◌∙◌, ap₂, inl, inr, arith}
 use Rattle.algebra.specs.Field.{Field}
 use Rattle.algebra.specs.Places.{Polynomial}
 use Rattle.algebra.specs.Sums.{Injective}

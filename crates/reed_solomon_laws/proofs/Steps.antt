@@ -1,10 +1,10 @@
 -- One place more in the key equation. Assumes nothing.
-use Rattle.std.proofs.Common.{◌≡◌, ℕ, ◌+◌, ◌<◌, ◌≤◌, ◌≢◌, ◌⊎◌, List, [], ◌∷◌, sym, refl, ap, ◌∙◌, subst, ap₂, inl, inr, arith}
+use Rattle.std.proofs.Common.{◌≡◌, ℕ, ◌+◌, ◌<◌, ◌≤◌, ◌≢◌, ◌⊎◌, [], ◌∷◌, sym, ap, ◌∙◌, subst, ap₂, inl, inr}
 use Rattle.algebra.specs.Field.{Field}
 use Rattle.algebra.specs.Places.{Polynomial}
 use Rattle.algebra.specs.Ring.{𝟘, 𝟙, ◌⊕◌, ◌⊗◌}
 use Rattle.algebra.specs.Sums.{Injective}
-use Rattle.algebra.proofs.Field.{mul-zero, zero-mul, add-zero, same_from_zero, zero_from_same, mul_ne_zero}
+use Rattle.algebra.proofs.Field.{mul-zero, zero-mul, same_from_zero, mul_ne_zero}
 use Rattle.algebra.proofs.Places.{polynomial_same, polynomial_weaken, polynomial_zero, polynomial_constant, polynomial_add, polynomial_scale, polynomial_root}
 use Rattle.algebra.proofs.Ring.{by_ring}
 use Rattle.reed_solomon_laws.specs.KeyEquation.{Pair, gap, cross, combined, rooted}

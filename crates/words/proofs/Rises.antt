@@ -1,5 +1,5 @@
 -- How a refusal rises through `?`, and what an answered check says. Assumes nothing.
-use Rattle.std.proofs.Common.{◌≡◌, IsErrAnd, Some, None, Ok, Err, Option, Result, sym, refl, ap, ◌∙◌}
+use Rattle.std.proofs.Common.{◌≡◌, IsErrAnd, Some, None, Ok, Err, Option, Result, refl, ap, ◌∙◌}
 use Rattle.std.proofs.lemmas.Result.{err_from_is_err_and}
 use Rattle.words.specs.declared.fault.Fault.{Fault}
 use Rattle.words.specs.Buffers.{checked}

@@ -1,5 +1,4 @@
-use Rattle.std.proofs.Common.{◌≡◌, ℕ, suc, ◌-◌, ◌*◌, ◌%◌, ◌^◌, ◌<◌, ◌≤◌, length, get_or, Err, sym, ap, ◌∙◌, arith}
-use Rattle.std.proofs.lemmas.Nat.{one_shl}
+use Rattle.std.proofs.Common.{◌≤◌, Err, sym, ap, ◌∙◌, arith}
 use Rattle.std.proofs.ByRecursion.{All-get_or}
 use Rattle.words.specs.Buffers.{checked}
 use Rattle.chains.specs.Model.{at_stage}

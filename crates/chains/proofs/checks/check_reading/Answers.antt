@@ -1,9 +1,7 @@
-use Rattle.std.proofs.Common.{◌≡◌, ℕ, ◌-◌, List, [], ◌∷◌, Some, None, sym, refl, ap, ◌∙◌, ap₂}
+use Rattle.std.proofs.Common.{◌≡◌, [], ◌∷◌, sym, ap, ◌∙◌, ap₂}
 use Rattle.words.specs.declared.fault.Layer.TheVariants.{Chain}
-use Rattle.words.specs.Buffers.{Given, checked, either, refusal, given}
+use Rattle.words.specs.Buffers.{Given, checked, refusal}
 use Rattle.words.proofs.Rises.{raised, checked_ok, checked_err}
-use Rattle.chains.specs.Model.{at_stage}
-use Rattle.chains.specs.Refusals.{large_label, sized, binary}
 use Rattle.chains.proofs.Due.{passed, stopped, fourth}
 use Rattle.chains.proofs.checks.check_reading.Goals as goal
 

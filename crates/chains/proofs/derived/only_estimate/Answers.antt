@@ -1,4 +1,3 @@
-use Rattle.std.proofs.Common.{◌≡◌, ℕ, List, Option}
 use Rattle.chains.specs.FromLaw.{determined}
 use Rattle.chains.proofs.derived.only_estimate.Goals as goal
 

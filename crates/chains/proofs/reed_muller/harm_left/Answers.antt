@@ -1,6 +1,6 @@
-use Rattle.std.proofs.Common.{◌≡◌, ℕ, ◌*◌, ◌≤◌, arith}
+use Rattle.std.proofs.Common.{arith}
 use lib.Bits.{bit_or, or_lt}
-use lib.Count.{ones, ones-le}
+use lib.Count.{ones-le}
 use Rattle.chains.proofs.Masks.{harm_ones}
 use Rattle.chains.proofs.reed_muller.harm_left.Goals as goal
 

@@ -1,9 +1,8 @@
-use Rattle.std.proofs.Common.{◌≡◌, ℕ, suc, ◌<◌, List, map, length, sym, refl, ap, ◌∙◌, subst, arith}
+use Rattle.std.proofs.Common.{◌≡◌, ℕ, suc, map, length, sym, ap, ◌∙◌, subst, arith}
 use Rattle.words.specs.declared.fault.Kind.TheVariants.{NoCodeword}
 use Rattle.words.specs.declared.fault.Layer.TheVariants.{Code}
 use Rattle.words.specs.Faults.{fault}
 use Rattle.words.proofs.Rises.{raised}
-use Rattle.codes.specs.Model.{CodeModel}
 use Rattle.pile_laws.specs.Flat.{words_in}
 use Rattle.pile_laws.specs.Stages.{Choices}
 use Rattle.pile_laws.proofs.Flat.{length_words_in}

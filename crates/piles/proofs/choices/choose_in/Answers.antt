@@ -1,17 +1,12 @@
-use Rattle.std.proofs.Common.{◌≡◌, ℕ, suc, ◌+◌, ◌-◌, ◌*◌, ◌<◌, ◌≤◌, List, map, length, get_or, take, drop, None, Ok, Err, Option, Result, sym, refl, ap, ◌∙◌, subst, ap₂, add-one, arith, rules}
+use Rattle.std.proofs.Common.{◌≡◌, ℕ, suc, ◌+◌, ◌-◌, ◌*◌, ◌<◌, ◌≤◌, List, map, length, take, drop, Ok, Err, sym, refl, ap, ◌∙◌, subst, add-one, arith, rules}
 use Rattle.std.proofs.ByRecursion.{All-get_or}
 use Rattle.std.proofs.lemmas.List.{length-drop, length-take-le}
-use Rattle.words.specs.declared.fault.Fault.{Fault}
 use Rattle.words.specs.declared.fault.Kind.TheVariants.{NoCodeword}
 use Rattle.words.specs.declared.fault.Layer.TheVariants.{Code}
 use Rattle.words.specs.Faults.{fault}
-use Rattle.words.proofs.Rises.{raised}
-use Rattle.chains.specs.declared.chain.Estimate.{Estimate}
-use Rattle.chains.specs.Model.{ChainModel, LawfulChain, Stage}
-use Rattle.chains.specs.Promises.{OfStage}
+use Rattle.chains.specs.Model.{Stage}
 use Rattle.chains.specs.FromLaw.{within}
 use Rattle.codes.specs.Model.{CodeModel}
-use Rattle.pile_laws.specs.Fit.{EachLawful}
 use Rattle.pile_laws.proofs.Calls.{stage_never, stage_number}
 use Rattle.pile_laws.proofs.Flat.{part_in}
 use Rattle.pile_laws.proofs.Scans.{codes_many, each_lawful, length_models, model_at}

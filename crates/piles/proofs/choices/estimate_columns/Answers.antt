@@ -1,5 +1,4 @@
-use Rattle.std.proofs.Common.{◌≡◌, ℕ, suc, ◌+◌, ◌-◌, ◌*◌, ◌<◌, ◌≤◌, List, length, get_or, take, drop, None, sym, ap, ◌∙◌, subst, ap₂, arith, rules}
-use Rattle.std.specs.List.{AllByRecursion as All}
+use Rattle.std.proofs.Common.{◌≡◌, ℕ, suc, ◌+◌, ◌-◌, ◌*◌, ◌<◌, ◌≤◌, List, length, take, drop, None, sym, ap, ◌∙◌, subst, ap₂, arith, rules}
 use Rattle.std.proofs.ByRecursion.{All-take, All-drop}
 use Rattle.chains.specs.Model.{Cells}
 use Rattle.chains.specs.Promises.{Estimates}

@@ -1,12 +1,9 @@
-use Rattle.std.proofs.Common.{◌≡◌, ℕ, suc, ◌*◌, ◌<◌, ◌≤◌, List, map, length, Ok, Err, Result, sym, refl, ap, ◌∙◌, subst, ap₂, inl, inr, arith}
+use Rattle.std.proofs.Common.{◌≡◌, ℕ, ◌*◌, ◌<◌, ◌≤◌, List, map, length, Ok, Err, Result, sym, refl, ap, ◌∙◌, subst, inr, arith}
 use Rattle.std.specs.List.{AllByRecursion as All}
 use Rattle.std.proofs.ByRecursion.{All-weaker}
 use Rattle.words.specs.declared.fault.Fault.{Fault}
-use Rattle.words.specs.declared.fault.Kind.TheVariants.{NoCodeword}
 use Rattle.words.specs.declared.fault.Layer.TheVariants.{Code}
-use Rattle.words.specs.Buffers.{answered, refusal}
-use Rattle.words.specs.Faults.{fault}
-use Rattle.words.specs.Harm.{harm, harm_buffers}
+use Rattle.words.specs.Harm.{harm}
 use Rattle.words.proofs.Rises.{raised}
 use Rattle.chains.specs.Model.{Row}
 use Rattle.codes.specs.Model.{CodeModel}

@@ -1,4 +1,4 @@
-use Rattle.std.proofs.Common.{◌≡◌, sym, subst, arith}
+use Rattle.std.proofs.Common.{sym, subst, arith}
 use Rattle.std.proofs.ByRecursion.{All-get_or}
 use Rattle.pile_laws.proofs.Scans.{bits_all, bits_more}
 use Rattle.piles.proofs.numbers.count_bits.Goals as goal

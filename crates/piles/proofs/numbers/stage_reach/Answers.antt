@@ -1,4 +1,4 @@
-use Rattle.std.proofs.Common.{◌≡◌, ◌*◌, ap₂, mul-le-mul, arith}
+use Rattle.std.proofs.Common.{◌*◌, ap₂, mul-le-mul, arith}
 use Rattle.chains.specs.FromLaw.{within}
 use Rattle.pile_laws.proofs.Calls.{stage_number}
 use Rattle.stage_laws.proofs.Reach.{distance_within}

@@ -1,8 +1,8 @@
-use Rattle.std.proofs.Common.{◌≡◌, ℕ, ◌*◌, ◌<◌, ◌≤◌, List, map, length, Ok, sym, refl, ap, ◌∙◌, subst, ap₂, mul-le-mul, arith}
+use Rattle.std.proofs.Common.{◌≡◌, ℕ, ◌*◌, ◌≤◌, List, map, length, Ok, sym, ap, ◌∙◌, subst, mul-le-mul, arith}
 use Rattle.codes.specs.Model.{CodeModel}
 use Rattle.codes.specs.Promises.{Recovered}
 use Rattle.codes.proofs.Working.{recovered, word_fits}
-use Rattle.pile_laws.specs.Build.{columns, encoded, joined_bits, laid, stage_words}
+use Rattle.pile_laws.specs.Build.{columns, joined_bits, laid}
 use Rattle.pile_laws.specs.Fit.{EachLong}
 use Rattle.pile_laws.specs.Flat.{words_in}
 use Rattle.pile_laws.specs.Pile.{pile}

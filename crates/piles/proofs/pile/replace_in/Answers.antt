@@ -1,4 +1,4 @@
-use Rattle.std.proofs.Common.{◌≡◌, ℕ, ◌*◌, ◌<◌, ◌≤◌, List, map, length, Ok, Err, sym, refl, ap, ◌∙◌, subst, mul-le-mul, arith}
+use Rattle.std.proofs.Common.{◌≡◌, ℕ, ◌*◌, ◌≤◌, List, map, length, Ok, Err, sym, ap, ◌∙◌, subst, mul-le-mul, arith}
 use Rattle.words.specs.declared.fault.Fault.{Fault}
 use Rattle.words.proofs.Rises.{raised}
 use Rattle.codes.specs.Model.{CodeModel}

@@ -1,4 +1,4 @@
-use Rattle.std.proofs.Common.{◌≡◌, ◌+◌, ◌*◌, false, cond, eqb, List, [], ◌∷◌, ◌++◌, is_ok, Some, None, vec_items, sym, ap, ◌∙◌, ap₂, ne_eqb}
+use Rattle.std.proofs.Common.{◌≡◌, ◌+◌, ◌*◌, cond, [], ◌∷◌, ◌++◌, is_ok, Some, None, vec_items, sym, ap, ◌∙◌, ap₂, ne_eqb}
 use Rattle.pizqarod.specs.Hex.{nibble, hex_bytes, with_digit, with_front}
 use Rattle.pizqarod.proofs.Prefixes.{front_more}
 use Rattle.pizqarod.proofs.hex.step.Goals as goal

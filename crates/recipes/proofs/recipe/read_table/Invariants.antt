@@ -1,5 +1,4 @@
 use Rattle.std.proofs.Common.{◌≡◌, ◌+◌, ◌-◌, ◌*◌, ◌≤◌, length}
-use Rattle.recipes.specs.Chains.{stages_of}
 use Rattle.recipes.specs.Rules.{first_broken, rules_from}
 use Rattle.recipes.proofs.Filling.{Filled}
 use Rattle.recipes.proofs.recipe.read_table.Given as goal

@@ -1,4 +1,4 @@
-use Rattle.std.proofs.Common.{◌≡◌, get_or, sum_by, sym, ap, ◌∙◌, arith, take_all}
+use Rattle.std.proofs.Common.{sum_by, ap, ◌∙◌, arith, take_all}
 use Rattle.std.proofs.ByRecursion.{All-get_or}
 use Rattle.std.proofs.lemmas.List.Sums.{sum_by_more}
 use Rattle.recipes.specs.Stages.{blank}

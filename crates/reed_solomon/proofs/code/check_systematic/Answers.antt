@@ -1,4 +1,3 @@
-use Rattle.std.proofs.Common.{refl}
 use Rattle.field_laws.specs.Fields.{FieldModel, FieldLaws}
 use Rattle.reed_solomon_laws.proofs.Laws.{systematic}
 use Rattle.reed_solomon.proofs.code.check_systematic.Goals as goal

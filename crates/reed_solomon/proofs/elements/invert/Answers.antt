@@ -1,4 +1,4 @@
-use Rattle.std.proofs.Common.{◌≡◌, ℕ, Some, sym, refl, ◌∙◌}
+use Rattle.std.proofs.Common.{◌≡◌, Some, sym, refl, ◌∙◌}
 use Rattle.field_laws.specs.Fields.{FieldModel, FieldLaws, size}
 use Rattle.field_laws.proofs.Reciprocals.{found_below}
 use Rattle.fields.proofs.Steps.{ok_one, same_value}

@@ -1,4 +1,4 @@
-use Rattle.std.proofs.Common.{◌≡◌, ℕ, get_or, ap, ◌∙◌, arith}
+use Rattle.std.proofs.Common.{ℕ, get_or, ap, ◌∙◌, arith}
 use Rattle.field_laws.specs.Fields.{FieldModel, FieldLaws}
 use Rattle.reed_solomon_laws.proofs.Numbers.{size_most}
 use Rattle.reed_solomon.proofs.interpolation.take_place.Goals as goal

@@ -1,4 +1,4 @@
-use Rattle.std.proofs.Common.{◌≡◌, ℕ, ◌+◌, ◌<◌, ◌≤◌, length, get_or, replicate, sym, ap, ◌∙◌, subst, arith}
+use Rattle.std.proofs.Common.{◌≡◌, ℕ, ◌≤◌, length, get_or, sym, ap, ◌∙◌, subst, arith}
 use Rattle.std.proofs.lemmas.List.{get_or-replicate}
 use Rattle.field_laws.specs.Fields.{FieldModel, FieldLaws, size}
 use Rattle.reed_solomon_laws.proofs.Arrays.{Below, Interpolated, Taken, interpolated_none, interpolated_at, fresh, passed_over, chosen_more}

@@ -1,5 +1,5 @@
-use Rattle.std.proofs.Common.{◌≡◌, ℕ, ◌<◌, ◌≤◌, length, sym, ◌∙◌, subst, arith}
-use Rattle.field_laws.specs.Fields.{FieldModel, FieldLaws, size}
+use Rattle.std.proofs.Common.{ℕ, sym, ◌∙◌, subst, arith}
+use Rattle.field_laws.specs.Fields.{FieldModel, FieldLaws}
 use Rattle.reed_solomon_laws.proofs.Arrays.{Below}
 use Rattle.reed_solomon_laws.proofs.Numbers.{size_most}
 use Rattle.reed_solomon.proofs.key_equation.eliminate.Goals as goal

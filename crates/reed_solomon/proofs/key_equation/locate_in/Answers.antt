@@ -1,4 +1,4 @@
-use Rattle.std.proofs.Common.{◌≡◌, Bool, cond, length, subst, arith}
+use Rattle.std.proofs.Common.{Bool, cond, length, subst, arith}
 use Rattle.field_laws.specs.Fields.{FieldModel}
 use Rattle.reed_solomon_laws.proofs.Arrays.{Located}
 use Rattle.reed_solomon.proofs.key_equation.locate_in.Goals as goal

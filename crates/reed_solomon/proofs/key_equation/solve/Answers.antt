@@ -1,7 +1,7 @@
-use Rattle.std.proofs.Common.{◌≡◌, ℕ, ◌+◌, ◌<◌, ◌≤◌, Bool, true, false, leb, List, length, get_or, replicate, sym, ap, ◌∙◌, subst, inl, inr, arith}
+use Rattle.std.proofs.Common.{◌≡◌, ℕ, ◌<◌, Bool, true, false, leb, List, length, get_or, replicate, sym, ap, ◌∙◌, subst, inl, inr, arith}
 use Rattle.std.proofs.lemmas.List.{get_or-replicate}
-use Rattle.field_laws.specs.Fields.{FieldModel, FieldLaws, size}
-use Rattle.reed_solomon_laws.proofs.Arrays.{Below, Keyed, Located, passes, keyed_at}
+use Rattle.field_laws.specs.Fields.{FieldModel, FieldLaws}
+use Rattle.reed_solomon_laws.proofs.Arrays.{Keyed, Located, passes, keyed_at}
 use Rattle.std.proofs.lemmas.Bool.{and_from, and_left, and_right, not_from_true, not_from_false, eq-eqb, ne_eqb, cond_both, leb-true, leb-false}
 use Rattle.reed_solomon_laws.proofs.Counts.{readable}
 use Rattle.reed_solomon_laws.proofs.Keying.{keyed_none, keyed_skip, keyed_first, keyed_second, one_misses, located_first, located_second}

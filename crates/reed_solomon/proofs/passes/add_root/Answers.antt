@@ -1,4 +1,4 @@
-use Rattle.std.proofs.Common.{◌≡◌, ℕ, ◌<◌, length, get_or, sym, ap, ◌∙◌, subst, ap₂, arith}
+use Rattle.std.proofs.Common.{ℕ, ◌<◌, length, sym, ◌∙◌, subst, ap₂, arith}
 use Rattle.field_laws.specs.Fields.{FieldModel, FieldLaws, size}
 use Rattle.reed_solomon_laws.proofs.Numbers.{size_most}
 use Rattle.reed_solomon_laws.proofs.Rewriting.{rewritten_more}

@@ -1,4 +1,4 @@
-use Rattle.std.proofs.Common.{◌≡◌, ℕ, ◌<◌, length, get_or, sym, ap, ◌∙◌, subst, ap₂, arith}
+use Rattle.std.proofs.Common.{ℕ, ◌<◌, length, sym, ap, ◌∙◌, subst, ap₂, arith}
 use Rattle.field_laws.specs.Fields.{FieldModel, size}
 use Rattle.reed_solomon_laws.proofs.Rewriting.{rewritten_more}
 use Rattle.reed_solomon.specs.Passes.{combination}

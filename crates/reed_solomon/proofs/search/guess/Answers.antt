@@ -1,7 +1,6 @@
-use Rattle.std.proofs.Common.{◌≡◌, ℕ, ◌≤◌, length, Ok, Err, sym, ◌∙◌, subst, arith}
+use Rattle.std.proofs.Common.{◌≡◌, ℕ, length, ◌∙◌, subst, arith}
 use Rattle.field_laws.specs.Fields.{FieldModel, FieldLaws}
 use Rattle.fields.proofs.Steps.{same_value, never}
-use Rattle.words.specs.Harm.{harm}
 use Rattle.reed_solomon_laws.proofs.Arrays.{Interpolated}
 use Rattle.reed_solomon_laws.proofs.Counts.{readable, count_early}
 use Rattle.reed_solomon_laws.proofs.Numbers.{size_most}

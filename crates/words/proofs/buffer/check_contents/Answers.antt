@@ -1,5 +1,4 @@
-use Rattle.std.proofs.Common.{◌≡◌, length, drop, sym, ap, ◌∙◌}
-use Rattle.std.proofs.lemmas.List.{at_drop_all}
+use Rattle.std.proofs.Common.{sym, ap, ◌∙◌}
 use Rattle.words.specs.Buffers.{checked}
 use Rattle.words.proofs.Rises.{raised, checked_ok, checked_err}
 use Rattle.words.proofs.Scans.{first_more, first_found, first_none}

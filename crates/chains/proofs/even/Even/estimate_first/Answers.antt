@@ -1,4 +1,4 @@
-use Rattle.std.proofs.Common.{ℕ, [], Some, sym, ◌∙◌, subst, arith}
+use Rattle.std.proofs.Common.{ℕ, [], Some, sym, subst, arith}
 use Rattle.chains.specs.Even.{even_chain}
 use Rattle.chains.specs.Promises.{Estimates}
 use Rattle.chains.proofs.EvenEstimates.{first_some, first_none}

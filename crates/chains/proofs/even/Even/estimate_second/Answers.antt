@@ -1,6 +1,6 @@
-use Rattle.std.proofs.Common.{◌≡◌, ℕ, ◌+◌, ◌%◌, ◌<◌, ◌⊎◌, [], ◌∷◌, Some, sym, ap, ◌∙◌, subst₂, inl, inr, ⊎_elim, arith}
+use Rattle.std.proofs.Common.{◌≡◌, ℕ, ◌+◌, ◌%◌, ◌<◌, [], ◌∷◌, Some, sym, ap, ◌∙◌, subst₂, inl, inr, ⊎_elim, arith}
 use lib.Bits.{bit_xor}
-use Rattle.chains.specs.Bits.{total, parity}
+use Rattle.chains.specs.Bits.{total}
 use Rattle.chains.specs.Even.{even_chain}
 use Rattle.chains.specs.Promises.{Estimates}
 use Rattle.chains.proofs.EvenEstimates.{second_some, second_none}

@@ -1,4 +1,4 @@
-use Rattle.std.proofs.Common.{◌≡◌, ◌+◌, ◌-◌, ◌%◌, ◌≤◌, get_or, take}
+use Rattle.std.proofs.Common.{◌≡◌, ◌+◌, ◌-◌, ◌%◌, get_or, take}
 use Rattle.chains.specs.Bits.{bits_of, total}
 use Rattle.chains.proofs.even.Even.lay.Given as goal
 

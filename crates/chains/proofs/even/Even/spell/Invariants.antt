@@ -1,4 +1,4 @@
-use Rattle.std.proofs.Common.{◌≡◌, ◌+◌, ◌-◌, ◌^◌, ◌<◌, ◌≤◌, get_or, take}
+use Rattle.std.proofs.Common.{◌≡◌, take}
 use Rattle.chains.specs.Bits.{spelled}
 use Rattle.chains.specs.Even.{filled}
 use Rattle.chains.proofs.even.Even.spell.Given as goal

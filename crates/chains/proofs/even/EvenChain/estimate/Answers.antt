@@ -1,4 +1,4 @@
-use Rattle.std.proofs.Common.{◌≡◌, ℕ, ◌-◌, ◌<◌, List, [], ◌∷◌, length, get_or, Some, None, Ok, sym, refl, ap, ◌∙◌, subst, subst₂, arith}
+use Rattle.std.proofs.Common.{◌≡◌, ℕ, ◌<◌, List, [], ◌∷◌, length, get_or, Ok, sym, refl, ◌∙◌, subst₂, arith}
 use Rattle.std.proofs.lemmas.List.{nil_from_length}
 use Rattle.words.specs.Buffers.{checked}
 use Rattle.words.proofs.Rises.{raised, checked_err}

@@ -1,4 +1,4 @@
-use Rattle.std.proofs.Common.{◌≡◌, sym, refl, ap, ◌∙◌}
+use Rattle.std.proofs.Common.{sym, refl, ap, ◌∙◌}
 use Rattle.words.specs.Buffers.{checked}
 use Rattle.chains.specs.Even.{even_word, even_widths}
 use Rattle.chains.specs.Model.{at_stage}

@@ -1,4 +1,4 @@
-use Rattle.std.proofs.Common.{◌≡◌, ℕ, ◌+◌, ◌-◌, ◌/◌, ◌^◌, ◌<◌, ◌≤◌, List, length, get_or, ap, ◌∙◌, subst, ap₂, lt_of_lt_of_le, arith, pow_mono}
+use Rattle.std.proofs.Common.{◌≡◌, ℕ, ◌+◌, ◌-◌, ◌/◌, ◌^◌, ◌<◌, ◌≤◌, length, get_or, ap, ◌∙◌, subst, ap₂, lt_of_lt_of_le, arith, pow_mono}
 use Rattle.std.proofs.lemmas.Nat.{shr_below}
 use Rattle.std.proofs.ByRecursion.{All-get_or}
 use Rattle.chains.specs.Model.{at_stage}

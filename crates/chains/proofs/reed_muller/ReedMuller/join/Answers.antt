@@ -1,7 +1,6 @@
-use Rattle.std.proofs.Common.{◌≡◌, ℕ, ◌+◌, ◌*◌, ◌%◌, ◌^◌, ◌<◌, ◌≤◌, length, get_or, take, sym, refl, ap, ◌∙◌, subst, ap₂, mod-eq_of_lt, arith, pow_mono}
-use Rattle.std.proofs.ByRecursion.{All-get_or}
+use Rattle.std.proofs.Common.{◌≡◌, ◌+◌, length, take, sym, ap, ◌∙◌, ap₂, arith}
 use Rattle.std.proofs.lemmas.List.{take_all}
-use Rattle.chains.specs.Bits.{bits_of, spelled, total}
+use Rattle.chains.specs.Bits.{bits_of, spelled}
 use Rattle.chains.specs.ReedMuller.{muller_widths, row_bits}
 use Rattle.chains.specs.MullerColumns.{muller_sizes}
 use Rattle.chains.proofs.MullerSteps.{stage_there, width_small, join_bits, join_count}

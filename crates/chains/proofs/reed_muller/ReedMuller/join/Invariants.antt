@@ -1,4 +1,4 @@
-use Rattle.std.proofs.Common.{◌≡◌, ◌^◌, ◌<◌, length, take}
+use Rattle.std.proofs.Common.{◌≡◌, length, take}
 use Rattle.chains.specs.Bits.{spelled}
 use Rattle.chains.specs.ReedMuller.{muller_widths, row_bits}
 use Rattle.chains.proofs.reed_muller.ReedMuller.join.Given as goal

@@ -1,7 +1,7 @@
-use Rattle.std.proofs.Common.{◌≡◌, ℕ, ◌+◌, ◌*◌, ◌^◌, ◌<◌, ◌≤◌, List, [], get_or, drop, sym, ap, ◌∙◌, ap₂, arith, pow_mono}
+use Rattle.std.proofs.Common.{◌≡◌, ◌^◌, ◌<◌, ◌≤◌, get_or, drop, sym, ap, ◌∙◌, arith, pow_mono}
 use Rattle.chains.specs.Bits.{bits_of, spelled}
 use Rattle.chains.specs.ReedMuller.{order}
-use Rattle.chains.specs.Votes.{column, columns, elected, laid, settled}
+use Rattle.chains.specs.Votes.{column, columns, elected, laid}
 use Rattle.chains.specs.MullerColumns.{muller_sizes}
 use Rattle.chains.proofs.MullerSteps.{laid_none, settle_short, settle_bits, settle_rest, settle_laid, settle_over, settle_whole}
 use Rattle.chains.specs.Voting.{elected_small}

@@ -1,8 +1,7 @@
-use Rattle.std.proofs.Common.{◌≡◌, ℕ, ◌+◌, ◌-◌, ◌/◌, ◌%◌, ◌^◌, List, [], ◌∷◌, length, get_or, drop, sym, ap, ◌∙◌, ap₂, arith}
+use Rattle.std.proofs.Common.{◌+◌, ◌^◌, ◌∷◌, drop, sym, ap, ◌∙◌, ap₂, arith}
 use Rattle.std.proofs.lemmas.List.{drop_more, drop_all}
 use Rattle.chains.specs.Bits.{bits_of}
-use Rattle.chains.specs.ReedMuller.{order}
-use Rattle.chains.specs.Votes.{Column, column, columns, laid}
+use Rattle.chains.specs.Votes.{columns, laid}
 use Rattle.chains.specs.MullerColumns.{muller_sizes}
 use Rattle.chains.proofs.MullerSteps.{columns_more, laid_none}
 use Rattle.chains.specs.Spelling.{length_bits, get_d_bits}

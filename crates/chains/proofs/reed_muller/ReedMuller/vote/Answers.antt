@@ -1,4 +1,4 @@
-use Rattle.std.proofs.Common.{ℕ, ◌^◌, ◌<◌, ◌≤◌, ◌∙◌, arith}
+use Rattle.std.proofs.Common.{◌^◌, ◌<◌, ◌≤◌, ◌∙◌, arith}
 use Rattle.chains.specs.Bits.{bits_of}
 use Rattle.chains.specs.Votes.{column}
 use Rattle.chains.specs.MullerColumns.{muller_sizes}

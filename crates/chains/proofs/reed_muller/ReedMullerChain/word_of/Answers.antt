@@ -1,12 +1,11 @@
-use Rattle.std.proofs.Common.{◌≡◌, ℕ, ◌+◌, ◌^◌, ◌≤◌, List, length, replicate, sym, refl, ap, ◌∙◌, subst, ap₂, arith}
+use Rattle.std.proofs.Common.{◌≡◌, ◌+◌, ◌^◌, ◌≤◌, sym, ap, ◌∙◌, subst, ap₂, arith}
 use Rattle.std.specs.List.{AllByRecursion as All}
 use Rattle.words.specs.Buffers.{checked}
 use Rattle.words.proofs.Rises.{raised, checked_err}
 use Rattle.chains.specs.Bits.{bits_of}
 use Rattle.chains.specs.Model.{at_stage}
 use Rattle.chains.specs.Promises.{kept_or}
-use Rattle.chains.specs.ReedMuller.{muller_widths, muller_word, row_bits}
-use Rattle.chains.specs.Refusals.{word_refusal, RowFits}
+use Rattle.chains.specs.ReedMuller.{muller_widths, muller_word}
 use Rattle.chains.specs.Votes.{columns, laid}
 use Rattle.chains.proofs.Due.{same_row, row_passed}
 use Rattle.chains.specs.Fits.{row_fits}

@@ -1,9 +1,7 @@
-use Rattle.std.proofs.Common.{◌≡◌, ℕ, ◌^◌, ◌<◌, ◌≤◌, List, [], ◌∷◌, length, get_or, replicate, Ok, Err, sym, refl, ap, ◌∙◌, subst, arith}
-use Rattle.words.specs.declared.fault.Fault.{Fault}
+use Rattle.std.proofs.Common.{◌≡◌, ℕ, ◌^◌, ◌<◌, List, [], ◌∷◌, length, get_or, replicate, sym, refl, ap, ◌∙◌, subst, arith}
 use Rattle.words.specs.Harm.{harm}
 use Rattle.words.proofs.Rises.{raised}
-use Rattle.codes.specs.Kinds.{repetition_code, readable_count}
-use Rattle.codes.specs.Promises.{Corrected}
+use Rattle.codes.specs.Kinds.{repetition_code}
 use Rattle.codes.specs.Repeats.{more_is_nearer, first_symbol}
 use Rattle.codes.proofs.Working.{shifted, correct_passes, damage_fits, corrected, uncorrected}
 use Rattle.codes.proofs.repetition.RepetitionCode.correct.Goals as goal

@@ -1,6 +1,6 @@
-use Rattle.std.proofs.Common.{◌≡◌, List, map, take, IfOk, Ok, Err, Result, subst}
+use Rattle.std.proofs.Common.{map, take, IfOk, Ok, Err, Result, subst}
 use Rattle.words.specs.declared.fault.Fault.{Fault}
-use Rattle.codes.specs.Model.{CodeModel, Lawful}
+use Rattle.codes.specs.Model.{Lawful}
 use Rattle.pile_laws.specs.Pile.{pile}
 use Rattle.pile_laws.proofs.Law.{pile_lawful}
 use Rattle.pile_laws.proofs.Scans.{each_lawful}

@@ -1,4 +1,4 @@
-use Rattle.std.proofs.Common.{List, map, take, rules}
+use Rattle.std.proofs.Common.{map, take, rules}
 use Rattle.codes.proofs.Nearness.{only_one_near}
 use Rattle.pile_laws.specs.Pile.{pile}
 use Rattle.piles.proofs.pile.Pile.correct.Goals as goal

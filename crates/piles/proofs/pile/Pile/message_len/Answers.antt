@@ -1,4 +1,4 @@
-use Rattle.std.proofs.Common.{◌≡◌, length, take, sym, ap, ◌∙◌, subst, arith}
+use Rattle.std.proofs.Common.{length, take, sym, ap, subst, arith}
 use Rattle.std.specs.List.{AllByRecursion as All}
 use Rattle.pile_laws.proofs.Scans.{codes_many}
 use Rattle.piles.proofs.pile.Pile.message_len.Goals as goal

@@ -1,4 +1,4 @@
-use Rattle.std.proofs.Common.{◌≡◌, ℕ, List, [], ◌∷◌, map, length, take, None, sym, ap, ◌∙◌, subst, subst₂, arith}
+use Rattle.std.proofs.Common.{◌≡◌, ℕ, List, [], ◌∷◌, map, length, take, None, sym, ap, subst, subst₂, arith}
 use Rattle.std.specs.List.{AllByRecursion as All}
 use Rattle.words.specs.declared.fault.Layer.TheVariants.{Code}
 use Rattle.words.specs.Buffers.{refusal, values_below, written_to}
@@ -6,7 +6,6 @@ use Rattle.words.proofs.Rises.{checked_ok}
 use Rattle.codes.specs.Model.{CodeModel}
 use Rattle.codes.proofs.Working.{word_fits}
 use Rattle.pile_laws.specs.Pile.{pile}
-use Rattle.pile_laws.proofs.Fitting.{fitting}
 use Rattle.pile_laws.proofs.Law.{pile_lawful}
 use Rattle.pile_laws.proofs.Scans.{codes_many, each_lawful}
 use Rattle.piles.specs.Sound.{SoundPile}

@@ -1,4 +1,4 @@
-use Rattle.std.proofs.Common.{◌≡◌, ℕ, ◌<◌, length, get_or, take}
+use Rattle.std.proofs.Common.{◌≡◌, length, take}
 use Rattle.piles.proofs.pile.Pile.new.Given as goal
 
 -- the codes so far are copied

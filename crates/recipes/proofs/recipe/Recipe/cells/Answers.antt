@@ -1,4 +1,4 @@
-use Rattle.std.proofs.Common.{ℕ, ◌*◌, ◌≤◌, sym, ap, subst, arith}
+use Rattle.std.proofs.Common.{ℕ, ◌*◌, ◌≤◌, sym, subst, arith}
 use Rattle.recipes.proofs.Bounds.{known_chain, cells_within}
 use Rattle.recipes.proofs.recipe.Recipe.cells.Goals as goal
 

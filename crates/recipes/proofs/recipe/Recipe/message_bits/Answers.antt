@@ -1,4 +1,4 @@
-use Rattle.std.proofs.Common.{◌<◌, ◌≤◌, List, length, sym, subst}
+use Rattle.std.proofs.Common.{◌≤◌, List, length, sym, subst}
 use Rattle.std.specs.List.{AllByRecursion as All}
 use Rattle.recipes.specs.declared.table.Stage.{Stage}
 use Rattle.recipes.specs.Totals.{Bounded}

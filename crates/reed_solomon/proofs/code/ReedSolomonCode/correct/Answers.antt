@@ -1,4 +1,4 @@
-use Rattle.std.proofs.Common.{◌≡◌, ℕ, ◌<◌, length, get_or, sym, refl, ◌∙◌, subst, arith, ap, is_err}
+use Rattle.std.proofs.Common.{◌<◌, sym, refl, ◌∙◌, arith, ap, is_err}
 use Rattle.std.proofs.ByRecursion.{All-get_or}
 use Rattle.words.proofs.Rises.{raised}
 use Rattle.field_laws.specs.Fields.{FieldModel, FieldLaws, size}

@@ -1,4 +1,4 @@
-use Rattle.std.proofs.Common.{◌≡◌, length, sym, refl, ◌∙◌, arith, ap, is_err}
+use Rattle.std.proofs.Common.{refl, arith, ap, is_err}
 use Rattle.words.proofs.Rises.{raised}
 use Rattle.field_laws.specs.Fields.{FieldModel, FieldLaws}
 use Rattle.codes.proofs.Working.{unsound_raised, encode_passes, message_fits}

@@ -1,9 +1,9 @@
-use Rattle.std.proofs.Common.{◌≡◌, ℕ, ◌-◌, ◌<◌, List, length, get_or, take, Ok, Err, sym, refl, ap, ◌∙◌, subst, arith, is_err}
+use Rattle.std.proofs.Common.{◌≡◌, ℕ, ◌-◌, ◌<◌, List, length, take, Ok, sym, refl, ap, ◌∙◌, subst, arith, is_err}
 use Rattle.std.proofs.ByRecursion.{All-take}
 use Rattle.std.proofs.lemmas.List.{length-take-le}
 use Rattle.words.proofs.Rises.{raised}
 use Rattle.field_laws.specs.Fields.{FieldModel, FieldLaws, size}
-use Rattle.codes.specs.Model.{CodeModel, Symbols}
+use Rattle.codes.specs.Model.{Symbols}
 use Rattle.codes.specs.Promises.{Recovered}
 use Rattle.codes.proofs.Working.{unsound_raised, message_of_passes, word_fits, recovered, unrecovered}
 use Rattle.reed_solomon_laws.specs.Words.{reed_solomon}

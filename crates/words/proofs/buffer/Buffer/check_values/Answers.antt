@@ -1,4 +1,4 @@
-use Rattle.std.proofs.Common.{◌≡◌, ◌<◌, ◌≤◌, get_or, Err, sym, ap, ◌∙◌, subst, arith}
+use Rattle.std.proofs.Common.{◌<◌, ◌≤◌, get_or, Err, sym, ap, ◌∙◌, arith}
 use Rattle.words.specs.Buffers.{checked}
 use Rattle.words.proofs.Scans.{large_more, large_found, large_none}
 use Rattle.words.proofs.buffer.Buffer.check_values.Goals as goal
