@@ -74,6 +74,14 @@ def turned(text, mark, names):
     return "\n".join(lines)
 
 
+def whole(text):
+    """The library's own word in place of a name that it has for something else."""
+    if "AllByRecursion as All" not in text:
+        return text
+    text = text.replace("AllByRecursion as All", "AllByRecursion")
+    return TOKEN.sub(lambda m: "AllByRecursion" if m.group(0) == "All" else m.group(0), text)
+
+
 def main():
     texts = {f: open(f).read() for f in antt_files()}
     own, goals = collections.OrderedDict(), set()
@@ -102,12 +110,12 @@ def main():
         print(fault, file=sys.stderr)
 
     for path in antt_files():
-        new = turned(texts[path], "--", names)
+        new = whole(turned(texts[path], "--", names))
         if new != texts[path]:
             open(path, "w").write(new)
     for path in files("crates/*/src/**/*.rt", "crates/*/must-fail/*.edit"):
         text = open(path).read()
-        new = turned(text, "//", names)
+        new = whole(turned(text, "//", names))
         if new != text:
             open(path, "w").write(new)
     print(f"{len(names)} names respelt")

@@ -1,6 +1,6 @@
 -- The estimates of the even chain: the one word that a reading can lie near. Assumes nothing.
 use Rattle.std.proofs.Common.{◌≡◌, ℕ, zero, suc, ◌+◌, ◌-◌, ◌%◌, ◌^◌, ◌<◌, ◌≤◌, Bool, true, false, cond, eqb, ◌⊎◌, List, [], ◌∷◌, ◌++◌, length, get_or, take, Some, None, sym, refl, ap, ◌∙◌, subst, ⊎_elim, arith}
-use Rattle.std.specs.List.{AllByRecursion as All}
+use Rattle.std.specs.List.{AllByRecursion}
 use Rattle.std.proofs.ByRecursion.{All-get_or, All-take}
 use Rattle.std.proofs.lemmas.List.{length-take-le, get_or-take, take_more, take_all}
 use Rattle.std.proofs.lemmas.Bool.{cases_lt, eq-eqb, eqb-true, eqb-false}
@@ -39,7 +39,7 @@ turned_at (suc zero) cell (suc zero) hf hm = omega arith
 turned_at (suc (suc flip)) cell (suc zero) hf hm = absurd (omega arith)
 turned_at flip cell (suc (suc mark)) hf hm = absurd (omega arith)
 
-filled_total : (flip : ℕ) (cells marks : List ℕ) → flip < 2 → length cells ≡ length marks → All (λ b. b < 2) marks → total (filled flip cells marks) % 2 ≡ (total cells + cond (eqb flip 0) 0 (total marks)) % 2
+filled_total : (flip : ℕ) (cells marks : List ℕ) → flip < 2 → length cells ≡ length marks → AllByRecursion (λ b. b < 2) marks → total (filled flip cells marks) % 2 ≡ (total cells + cond (eqb flip 0) 0 (total marks)) % 2
 filled_total flip [] [] hf l a = elim (eqb flip 0) as (λ t. 0 ≡ (0 + cond t 0 0) % 2) [ true ↦ refl | false ↦ refl ]
 filled_total flip [] (m ∷ marks) hf l a = absurd (omega arith)
 filled_total flip (c ∷ cells) [] hf l a = absurd (omega arith)
@@ -59,7 +59,7 @@ harmless_at flip cell (suc zero) h = refl
 harmless_at flip cell (suc (suc mark)) h = absurd (omega arith)
 
 -- only the blank cells count against the reading that was filled
-pub filled_harm : (flip : ℕ) (cells marks : List ℕ) → length cells ≡ length marks → All (λ b. b < 2) marks → harm cells marks (filled flip cells marks) ≡ total marks
+pub filled_harm : (flip : ℕ) (cells marks : List ℕ) → length cells ≡ length marks → AllByRecursion (λ b. b < 2) marks → harm cells marks (filled flip cells marks) ≡ total marks
 filled_harm flip [] [] l a = refl
 filled_harm flip [] (m ∷ marks) l a = absurd (omega arith)
 filled_harm flip (c ∷ cells) [] l a = absurd (omega arith)

@@ -3,7 +3,7 @@ use Rattle.std.proofs.Common.{◌≡◌, ℕ, suc, ◌+◌, ◌-◌, ◌*◌, �
 use Rattle.std.proofs.lemmas.Nat.{one_shl}
 use Rattle.std.proofs.ByRecursion.{All-get_or}
 use Rattle.std.proofs.lemmas.List.{at_drop_more, at_drop_all}
-use Rattle.std.specs.List.{AllByRecursion as All}
+use Rattle.std.specs.List.{AllByRecursion}
 use Rattle.words.specs.declared.fault.Kind.TheVariants.{TooLarge}
 use Rattle.words.specs.declared.fault.Layer.TheVariants.{Chain}
 use Rattle.words.specs.Faults.{fault}
@@ -26,7 +26,7 @@ module _ (width : ℕ → ℕ) (xs : List ℕ) (i : ℕ) where
   label_none h = at_drop_all (large_label width i) xs i h
 
 -- the bound as a program shifts it, at the index of a label
-pub bound_at : (widths : List ℕ) (i : ℕ) → All (λ w. w ≤ 8) widths → i < length widths → (1 * 2 ^ get_or widths i 0) % 65536 ≡ 2 ^ at_stage widths (suc i)
+pub bound_at : (widths : List ℕ) (i : ℕ) → AllByRecursion (λ w. w ≤ 8) widths → i < length widths → (1 * 2 ^ get_or widths i 0) % 65536 ≡ 2 ^ at_stage widths (suc i)
 bound_at widths i narrow h =
     let few = All-get_or (λ w. w ≤ 8) widths i 0 h narrow in
     let index : i ≡ suc i - 1 = omega arith in

@@ -2,7 +2,7 @@
 use Rattle.std.proofs.Common.{◌≡◌, ℕ, ◌+◌, ◌-◌, ◌*◌, ◌%◌, ◌^◌, ◌<◌, ◌≤◌, true, false, cond, ◌&&◌, eqb, List, [], ◌∷◌, map, length, get_or, take, drop, filter, sym, refl, ap, ◌∙◌, subst, ap₂, ⊎_elim, mod-eq_of_lt, arith, pow_mono}
 use lib.Bits.{bit_and, bit_xor, xor_lt}
 use lib.Count.{ones}
-use Rattle.std.specs.List.{AllByRecursion as All}
+use Rattle.std.specs.List.{AllByRecursion}
 use Rattle.std.proofs.ByRecursion.{All-get_or}
 use Rattle.std.proofs.lemmas.List.{drop_all, drop_more, take_all, get_or-map, length-drop, length-map}
 use Rattle.std.proofs.lemmas.Bool.{cases_eq, lt-ltb, le-ltb, eq-eqb, ne_eqb, cond-true, cond-false}
@@ -46,7 +46,7 @@ module _ (r : ℕ) (range : MullerRange r) (labels ws : List ℕ) (i : ℕ) (tab
   stage_there = omega (arith, ap length table, (muller_sizes r range).stages)
 
   pub width_small : get_or ws i 0 ≤ 8
-  width_small = All-get_or (λ w. w ≤ 8) ws i 0 stage_there (subst (All (λ w. w ≤ 8)) (sym table) (muller_sizes r range).few_width)
+  width_small = All-get_or (λ w. w ≤ 8) ws i 0 stage_there (subst (AllByRecursion (λ w. w ≤ 8)) (sym table) (muller_sizes r range).few_width)
 
   step : Joins (muller_widths r) labels i
   step = joins (muller_widths r) labels i (omega (arith, (muller_sizes r range).stages)) fit h

@@ -1,7 +1,7 @@
 -- The harm of a reading of bits against a word, and the reading's blanks. Assumes nothing.
 use Rattle.std.specs.Prelude.{◌≡◌, ℕ, zero, suc, ◌+◌, ◌*◌, ◌<◌, ◌≤◌, true, false, cond, List, [], ◌∷◌, length, ◌==◌, refl}
 use Rattle.std.proofs.Common.{ap, arith}
-use Rattle.std.specs.List.{AllByRecursion as All}
+use Rattle.std.specs.List.{AllByRecursion}
 use Rattle.std.proofs.lemmas.Bool.{eq-eqb}
 use Rattle.words.specs.Distance.{differences}
 use Rattle.words.specs.Harm.{harm, harm_at}
@@ -13,7 +13,7 @@ blank_at cell (suc zero) sent h = omega arith
 blank_at cell (suc (suc mark)) sent h = absurd (omega arith)
 
 -- each blank counts
-pub blanks_harm : (cells marks word : List ℕ) → length marks ≡ length cells → length word ≡ length cells → All (λ b. b < 2) marks → total marks ≤ harm cells marks word
+pub blanks_harm : (cells marks word : List ℕ) → length marks ≡ length cells → length word ≡ length cells → AllByRecursion (λ b. b < 2) marks → total marks ≤ harm cells marks word
 blanks_harm [] [] word lm lw a = omega arith
 blanks_harm [] (m ∷ marks) word lm lw a = absurd (omega arith)
 blanks_harm (c ∷ cells) [] word lm lw a = absurd (omega arith)
@@ -27,7 +27,7 @@ differs_at cell (suc zero) sent h = elim (cell == sent) as (λ t. 2 * cond t 0 1
 differs_at cell (suc (suc mark)) sent h = absurd (omega arith)
 
 -- and each readable cell that is wrong counts twice
-pub differences_harm : (cells marks word : List ℕ) → length marks ≡ length cells → length word ≡ length cells → All (λ b. b < 2) marks → 2 * differences cells word ≤ harm cells marks word + total marks
+pub differences_harm : (cells marks word : List ℕ) → length marks ≡ length cells → length word ≡ length cells → AllByRecursion (λ b. b < 2) marks → 2 * differences cells word ≤ harm cells marks word + total marks
 differences_harm [] marks word lm lw a = omega arith
 differences_harm (c ∷ cells) [] word lm lw a = absurd (omega arith)
 differences_harm (c ∷ cells) (m ∷ marks) [] lm lw a = absurd (omega arith)
@@ -40,7 +40,7 @@ own_at cell (suc zero) h = refl
 own_at cell (suc (suc mark)) h = absurd (omega arith)
 
 -- against its own cells only the blanks of a reading count
-pub own_harm : (cells marks : List ℕ) → length marks ≡ length cells → All (λ b. b < 2) marks → harm cells marks cells ≡ total marks
+pub own_harm : (cells marks : List ℕ) → length marks ≡ length cells → AllByRecursion (λ b. b < 2) marks → harm cells marks cells ≡ total marks
 own_harm [] [] l a = refl
 own_harm [] (m ∷ marks) l a = absurd (omega arith)
 own_harm (c ∷ cells) [] l a = absurd (omega arith)

@@ -1,7 +1,7 @@
 -- Words as what bits leave on the cells, and the harm by what is left of a reading. Assumes nothing.
 use Rattle.std.specs.Prelude.{◌≡◌, ℕ, zero, suc, ◌+◌, ◌*◌, ◌%◌, ◌<◌, ◌≤◌, Bool, true, false, cond, List, [], ◌∷◌, ◌++◌, map, length, drop, replicate, ◌==◌, slice_index, slice_index_or, refl}
 use Rattle.std.proofs.Common.{sym, ap, ap₂, ◌∙◌, arith}
-use Rattle.std.specs.List.{AllByRecursion as All}
+use Rattle.std.specs.List.{AllByRecursion}
 use Rattle.std.proofs.ByRecursion.{All-get_or}
 use Rattle.std.proofs.lemmas.List.{ext_get_or, get_or-map, get_or-replicate, length-map}
 use Rattle.words.specs.Harm.{harm, harm_at}
@@ -90,7 +90,7 @@ module _ (n p : ℕ) (at : p < n) (column : ℕ → Column) where
   abbrev Reach : ℕ → Type 0
   Reach s = Cells n (column s).reaches × (slice_index (column s).reaches p ≡ cond (inside s p) 1 0)
 
-  pub laid_at : (ss bs y : List ℕ) → All Reach ss → All (λ b. b < 2) bs → Cells n y → slice_index (laid (map column ss) bs y) p % 2 ≡ (slice_index y p + held p ss bs) % 2
+  pub laid_at : (ss bs y : List ℕ) → AllByRecursion Reach ss → AllByRecursion (λ b. b < 2) bs → Cells n y → slice_index (laid (map column ss) bs y) p % 2 ≡ (slice_index y p + held p ss bs) % 2
   laid_at [] bs y reach bits fy = omega arith
   laid_at (s ∷ ss) [] y reach bits fy = omega arith
   laid_at (s ∷ ss) (b ∷ bs) y reach bits fy =
@@ -106,7 +106,7 @@ module _ (n p : ℕ) (at : p < n) (column : ℕ → Column) where
       by_bit (suc (suc k)) h t e = absurd (omega arith)
 
 -- so the bits leave the word that is made of them, cell by cell
-pub word_laid : (n : ℕ) (column : ℕ → Column) (ss bs : List ℕ) → Good n (map column ss) → All (λ b. b < 2) bs → ((p : ℕ) → p < n → All (λ s. Cells n (column s).reaches × (slice_index (column s).reaches p ≡ cond (inside s p) 1 0)) ss) → map (λ p. held p ss bs % 2) (counted 0 n) ≡ laid (map column ss) bs (replicate n 0)
+pub word_laid : (n : ℕ) (column : ℕ → Column) (ss bs : List ℕ) → Good n (map column ss) → AllByRecursion (λ b. b < 2) bs → ((p : ℕ) → p < n → AllByRecursion (λ s. Cells n (column s).reaches × (slice_index (column s).reaches p ≡ cond (inside s p) 1 0)) ss) → map (λ p. held p ss bs % 2) (counted 0 n) ≡ laid (map column ss) bs (replicate n 0)
 word_laid n column ss bs good bits reach = ext_get_or 0 _ _ (long ∙ sym fits.0) each
   where
     fits : Cells n (laid (map column ss) bs (replicate n 0))

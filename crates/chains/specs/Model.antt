@@ -1,6 +1,6 @@
 -- What a chain is: stages of labels, and the word of cells that a row of labels stands for. Assumes nothing.
 use Rattle.std.specs.Prelude.{◌≡◌, ℕ, suc, ◌-◌, ◌^◌, ◌<◌, ◌≤◌, List, [], ◌∷◌, length, take, ◌≢◌, slice_index}
-use Rattle.std.specs.List.{AllByRecursion as All}
+use Rattle.std.specs.List.{AllByRecursion}
 use Rattle.words.specs.Distance.{differences}
 
 -- n cells, and stages numbered from 1, each with a label width and a distance
@@ -35,7 +35,7 @@ abbrev pub FirstDiffer : ℕ → List ℕ → List ℕ → Type 0
 FirstDiffer i u v = (before i u ≡ before i v) × (at_stage u i ≢ at_stage v i)
 
 abbrev pub Cells : ℕ → List ℕ → Type 0
-Cells n w = (length w ≡ n) × All (λ x. x < 2) w
+Cells n w = (length w ≡ n) × AllByRecursion (λ x. x < 2) w
 
 pub record LawfulChain (h : ChainModel) : Type 0 where
   pub some_cells : 1 ≤ h.breadth

@@ -1,7 +1,7 @@
 -- What the columns of the Reed-Muller chains are, shown for each r by one test. Assumes nothing.
 use Rattle.std.specs.Prelude.{◌≡◌, ℕ, zero, suc, ◌+◌, ◌-◌, ◌%◌, ◌^◌, ◌<◌, ◌≤◌, Bool, true, cond, ◌&&◌, leb, List, [], ◌∷◌, length, take, drop, replicate, ◌==◌, nat_eq, nat_le, nat_lt, slice_index, refl}
 use Rattle.std.proofs.Common.{ap, ap₂, subst, ◌∙◌, arith}
-use Rattle.std.specs.List.{AllByRecursion as All}
+use Rattle.std.specs.List.{AllByRecursion}
 use Rattle.std.proofs.ByRecursion.{All-get_or}
 use Rattle.std.proofs.lemmas.Bool.{and_parts, eqb-true, ltb-true, leb-true}
 use Rattle.chains.specs.Bits.{total}
@@ -25,7 +25,7 @@ abbrev pub every : {X : Type 0} → (X → Bool) → List X → Bool
 every test [] = true
 every test (x ∷ xs) = test x && every test xs
 
-all_from_every : {X : Type 0} (test : X → Bool) (P : X → Type 0) → ((x : X) → test x ≡ true → P x) → (xs : List X) → every test xs ≡ true → All P xs
+all_from_every : {X : Type 0} (test : X → Bool) (P : X → Type 0) → ((x : X) → test x ≡ true → P x) → (xs : List X) → every test xs ≡ true → AllByRecursion P xs
 all_from_every test P tells [] e = tt
 all_from_every test P tells (x ∷ xs) e =
     let p = and_parts (test x) (every test xs) e in (tells x p.0, all_from_every test P tells xs p.1)
@@ -87,7 +87,7 @@ muller_good r range = good_tells (2 ^ r) (columns r) (each_muller (λ k. good_te
 abbrev enough_test : ℕ → ℕ → Bool
 enough_test r i = every (λ (c : Column). leb (2 ^ (i - 1)) (length c.checks)) (drop (total (take (i - 1) (muller_widths r))) (columns r))
 
-pub muller_enough : (r i : ℕ) → MullerRange r → 1 ≤ i → i ≤ r + 1 → All (λ (c : Column). 2 ^ (i - 1) ≤ length c.checks) (drop (total (take (i - 1) (muller_widths r))) (columns r))
+pub muller_enough : (r i : ℕ) → MullerRange r → 1 ≤ i → i ≤ r + 1 → AllByRecursion (λ (c : Column). 2 ^ (i - 1) ≤ length c.checks) (drop (total (take (i - 1) (muller_widths r))) (columns r))
 unfolding subsets
 muller_enough r i range low high =
     let all = each_muller (λ k. every (enough_test k) (counted 1 (k + 1)) ≡ true) refl refl refl refl r range in
@@ -102,7 +102,7 @@ reach_here r p s = cells_test (2 ^ r) (column r s).reaches && slice_index (colum
 abbrev reach_test : ℕ → ℕ → Bool
 reach_test r p = every (reach_here r p) (order r)
 
-pub muller_reach : (r p : ℕ) → MullerRange r → p < 2 ^ r → All (λ s. Cells (2 ^ r) (column r s).reaches × (slice_index (column r s).reaches p ≡ cond (inside s p) 1 0)) (order r)
+pub muller_reach : (r p : ℕ) → MullerRange r → p < 2 ^ r → AllByRecursion (λ s. Cells (2 ^ r) (column r s).reaches × (slice_index (column r s).reaches p ≡ cond (inside s p) 1 0)) (order r)
 unfolding subsets
 muller_reach r p range at =
     let all = each_muller (λ k. every (reach_test k) (counted 0 (2 ^ k)) ≡ true) refl refl refl refl r range in
@@ -120,8 +120,8 @@ pub record MullerSizes (r : ℕ) : Type 0 where
   pub stages : length (muller_widths r) ≡ r + 1
   pub bits : total (muller_widths r) ≡ 2 ^ r
   pub many : length (columns r) ≡ 2 ^ r
-  pub some_width : All (λ w. 1 ≤ w) (muller_widths r)
-  pub few_width : All (λ w. w ≤ 8) (muller_widths r)
+  pub some_width : AllByRecursion (λ w. 1 ≤ w) (muller_widths r)
+  pub few_width : AllByRecursion (λ w. w ≤ 8) (muller_widths r)
   pub few_cells : 2 ^ r ≤ 16
 
 abbrev some_test : ℕ → Bool

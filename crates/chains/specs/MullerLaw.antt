@@ -1,7 +1,7 @@
 -- The Reed-Muller chain is lawful: words that lie too near would both be found in one reading. Assumes nothing.
 use Rattle.std.specs.Prelude.{◌≡◌, ℕ, zero, suc, ◌+◌, ◌-◌, ◌^◌, ◌<◌, ◌≤◌, true, false, cond, List, [], ◌∷◌, ◌++◌, length, take, drop, ◌==◌, slice_index, refl}
 use Rattle.std.proofs.Common.{sym, ap, ap₂, subst, ◌∙◌, ⊎_elim, arith, pow_mono, pow_pos}
-use Rattle.std.specs.List.{AllByRecursion as All}
+use Rattle.std.specs.List.{AllByRecursion}
 use Rattle.std.proofs.ByRecursion.{All-get_or}
 use Rattle.std.proofs.lemmas.List.{get_or-drop, length-drop, length-take-le, take-append-drop}
 use Rattle.std.proofs.lemmas.Bool.{cases_lt}
@@ -108,7 +108,7 @@ module _ (r : ℕ) (range : MullerRange r) where
           let label : at_stage u i ≡ at_stage v i = ap (λ k. slice_index u k) here ∙ sym (get_or-drop (i - 1) u 0 0) ∙ ap (λ xs. slice_index xs 0) rests ∙ get_or-drop (i - 1) v 0 0 ∙ ap (λ k. slice_index v k) (sym here) in
           absurd (differ.1 label)
 
-  width_at : (P : ℕ → Type 0) → All P ws → (i : ℕ) → Stage (muller_chain r) i → P (at_stage ws i)
+  width_at : (P : ℕ → Type 0) → AllByRecursion P ws → (i : ℕ) → Stage (muller_chain r) i → P (at_stage ws i)
   width_at P all i stage = All-get_or P ws (i - 1) 0 (omega (arith, stage, sizes.stages)) all
 
   pub muller_lawful : LawfulChain (muller_chain r)

@@ -1,7 +1,7 @@
 -- The words of the Reed-Muller chain, and what its votes find. Assumes nothing.
 use Rattle.std.specs.Prelude.{◌≡◌, ℕ, suc, ◌+◌, ◌-◌, ◌^◌, ◌<◌, ◌≤◌, List, ◌∷◌, ◌++◌, length, take, drop, replicate, Some, None, slice_index}
 use Rattle.std.proofs.Common.{sym, ap, subst, ◌∙◌, ⊎_elim, arith}
-use Rattle.std.specs.List.{AllByRecursion as All}
+use Rattle.std.specs.List.{AllByRecursion}
 use Rattle.std.proofs.ByRecursion.{All-weaker}
 use Rattle.std.proofs.lemmas.List.{length-append, length-drop, take-append-drop, take_all, take_at, get_or_at}
 use Rattle.std.proofs.lemmas.Bool.{cases_lt}
@@ -86,7 +86,7 @@ module _ (r : ℕ) (range : MullerRange r) where
         let bits = row_bits (drop (i - 1) ws) rest in
         let e = laid open_columns bits begun in
         let few : left_harm e m < 2 ^ (i - 1) = subst (λ (k : ℕ). k < 2 ^ (i - 1)) (left_is rest) near in
-        let enough = subst (λ (k : ℕ). All (λ (c : Column). 2 ^ (i - 1) ≤ length c.checks) (drop k (columns r))) (sym length_decided) (muller_enough r i range low high) in
+        let enough = subst (λ (k : ℕ). AllByRecursion (λ (c : Column). 2 ^ (i - 1) ≤ length c.checks) (drop k (columns r))) (sym length_decided) (muller_enough r i range low high) in
         let whole : length bits ≡ length open_columns = length_row_bits (drop (i - 1) ws) rest (omega (arith, long)) ∙ ap total (take_all (length rest) (drop (i - 1) ws) (omega (arith, long))) ∙ sym length_open in
         settles (2 ^ r) open_columns bits begun m (good_drop (2 ^ r) (length decided) (columns r) (muller_good r range)) (laid_cells (2 ^ r) (columns r) decided y (muller_good r range) fy) fm (row_bits_small (drop (i - 1) ws) rest) whole
         (All-weaker (λ (c : Column). 2 ^ (i - 1) ≤ length c.checks) (λ (c : Column). left_harm e m < length c.checks) (λ c h. omega (arith, few, h)) open_columns enough)

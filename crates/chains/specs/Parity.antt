@@ -1,7 +1,7 @@
 -- In how many places two words differ, and the exclusive or of each. Assumes nothing.
 use Rattle.std.specs.Prelude.{◌≡◌, ℕ, zero, suc, ◌+◌, ◌%◌, ◌<◌, Bool, true, false, cond, List, [], ◌∷◌, ◌++◌, length, take, ◌==◌, bit_xor, slice_index, refl}
 use Rattle.std.proofs.Common.{ap, ap₂, ◌∙◌, arith}
-use Rattle.std.specs.List.{AllByRecursion as All}
+use Rattle.std.specs.List.{AllByRecursion}
 use Rattle.std.proofs.lemmas.List.{take_more}
 use Rattle.std.proofs.lemmas.Bool.{eqb-true}
 use Rattle.words.specs.Distance.{differences}
@@ -34,7 +34,7 @@ differ_at (suc zero) (suc (suc y)) hx hy = absurd (omega arith)
 differ_at (suc (suc x)) y hx hy = absurd (omega arith)
 
 -- words of as many cells differ in an odd number of them exactly where their exclusive ors differ
-pub differences_parity : (u v : List ℕ) → length u ≡ length v → All (λ b. b < 2) u → All (λ b. b < 2) v → (total u + total v + differences u v) % 2 ≡ 0
+pub differences_parity : (u v : List ℕ) → length u ≡ length v → AllByRecursion (λ b. b < 2) u → AllByRecursion (λ b. b < 2) v → (total u + total v + differences u v) % 2 ≡ 0
 differences_parity [] [] l a b = refl
 differences_parity [] (y ∷ v) l a b = absurd (omega arith)
 differences_parity (x ∷ u) [] l a b = absurd (omega arith)

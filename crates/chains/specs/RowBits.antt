@@ -1,7 +1,7 @@
 -- A row of labels and its bits. Assumes nothing.
 use Rattle.std.specs.Prelude.{◌≡◌, ℕ, zero, suc, ◌+◌, ◌-◌, ◌*◌, ◌^◌, ◌<◌, ◌≤◌, List, [], ◌∷◌, ◌++◌, length, take, drop, slice_index, refl}
 use Rattle.std.proofs.Common.{sym, ap, ap₂, subst, ◌∙◌, lt_of_lt_of_le, mod-eq_of_lt, add-one, arith, pow_mono}
-use Rattle.std.specs.List.{AllByRecursion as All}
+use Rattle.std.specs.List.{AllByRecursion}
 use Rattle.std.proofs.ByRecursion.{All-append, All-take, All-drop}
 use Rattle.std.proofs.lemmas.List.{append_assoc, append-nil, take_more, drop_more, length-append, length-drop, length-take-le, take-append-drop, take_at, drop_at}
 use Rattle.chains.specs.Bits.{bits_of, spelled, total}
@@ -37,7 +37,7 @@ from_fit ws (x ∷ us) j l a =
     let p = subst (λ (vs : List ℕ). Fit vs (x ∷ us)) (widths_more ws j (omega arith)) a in
     (p.0, from_fit ws us (suc j) (omega arith) p.1)
 
-pub row_bits_small : (ws us : List ℕ) → All (λ b. b < 2) (row_bits ws us)
+pub row_bits_small : (ws us : List ℕ) → AllByRecursion (λ b. b < 2) (row_bits ws us)
 row_bits_small [] us = tt
 row_bits_small (w ∷ ws) [] = tt
 row_bits_small (w ∷ ws) (x ∷ us) = All-append (λ b. b < 2) (bits_of w x) (row_bits ws us) (bits_small w x) (row_bits_small ws us)
@@ -65,14 +65,14 @@ pub length_cut : (ws bs : List ℕ) → length (cut ws bs) ≡ length ws
 length_cut [] bs = refl
 length_cut (w ∷ ws) bs = ap suc (length_cut ws (drop w bs))
 
-pub cut_fits : (ws bs : List ℕ) → length bs ≡ total ws → All (λ b. b < 2) bs → Fit ws (cut ws bs)
+pub cut_fits : (ws bs : List ℕ) → length bs ≡ total ws → AllByRecursion (λ b. b < 2) bs → Fit ws (cut ws bs)
 cut_fits [] bs l a = tt
 cut_fits (w ∷ ws) bs l a =
     let long : length (take w bs) ≡ w = length-take-le w bs (omega arith) in
     (subst (λ (k : ℕ). spelled (take w bs) < 2 ^ k) long (spelled_small (take w bs) (All-take (λ b. b < 2) w bs a)), cut_fits ws (drop w bs) (length-drop w bs ∙ omega arith) (All-drop (λ b. b < 2) w bs a))
 
 -- bits are those of the labels that they spell
-pub row_bits_cut : (ws bs : List ℕ) → length bs ≡ total ws → All (λ b. b < 2) bs → row_bits ws (cut ws bs) ≡ bs
+pub row_bits_cut : (ws bs : List ℕ) → length bs ≡ total ws → AllByRecursion (λ b. b < 2) bs → row_bits ws (cut ws bs) ≡ bs
 row_bits_cut [] [] l a = refl
 row_bits_cut [] (b ∷ bs) l a = absurd (omega arith)
 row_bits_cut (w ∷ ws) bs l a =

@@ -3,7 +3,7 @@ use Rattle.std.specs.Prelude.{◌≡◌, ℕ, zero, suc, ◌+◌, ◌-◌, ◌*�
 use Rattle.std.proofs.Common.{sym, ap, ap₂, subst, ◌∙◌, add-mul, mul_assoc, lt_of_lt_of_le, mod-eq_of_lt, mul-add, mul-le-mul_right, arith, pow_mono}
 use Rattle.std.proofs.Math.Nat.{zero-div, le-pred_of_lt}
 use Rattle.std.proofs.Math.Pow.{field, mod-mod-pow}
-use Rattle.std.specs.List.{AllByRecursion as All}
+use Rattle.std.specs.List.{AllByRecursion}
 use Rattle.std.proofs.lemmas.Nat.{mod-pow-add, pow-add, shr_high, mod_low}
 use Rattle.std.proofs.ByRecursion.{All-take, All-drop}
 use Rattle.std.proofs.lemmas.List.{length-append, length-drop, length-take-le, take-append-drop, take_more}
@@ -13,7 +13,7 @@ pub length_bits : (k x : ℕ) → length (bits_of k x) ≡ k
 length_bits zero x = refl
 length_bits (suc k) x = ap suc (length_bits k x)
 
-pub bits_small : (k x : ℕ) → All (λ b. b < 2) (bits_of k x)
+pub bits_small : (k x : ℕ) → AllByRecursion (λ b. b < 2) (bits_of k x)
 bits_small zero x = tt
 bits_small (suc k) x = (omega arith, bits_small k x)
 
@@ -37,13 +37,13 @@ same_bits (suc k) x y e =
     ap₂ ◌∷◌ (sym (field x 1 k) ∙ ap (λ n. n / 2 ^ k) here ∙ field y 1 k)
     (same_bits k x y (sym (mod-mod-pow x 1 k) ∙ ap (λ n. n % 2 ^ k) here ∙ mod-mod-pow y 1 k))
 
-pub spelled_small : (bs : List ℕ) → All (λ b. b < 2) bs → spelled bs < 2 ^ length bs
+pub spelled_small : (bs : List ℕ) → AllByRecursion (λ b. b < 2) bs → spelled bs < 2 ^ length bs
 spelled_small [] a = omega arith
 spelled_small (b ∷ bs) a =
     let one = mul-le-mul_right (2 ^ length bs) (le-pred_of_lt a.0) in
     omega (arith, one, spelled_small bs a.1, pow_more (length bs))
 
-pub bits_spelled : (bs : List ℕ) → All (λ b. b < 2) bs → bits_of (length bs) (spelled bs) ≡ bs
+pub bits_spelled : (bs : List ℕ) → AllByRecursion (λ b. b < 2) bs → bits_of (length bs) (spelled bs) ≡ bs
 bits_spelled [] a = refl
 bits_spelled (b ∷ bs) a =
     let k = length bs in
@@ -72,7 +72,7 @@ pub spelled_more : (xs : List ℕ) (i : ℕ) → i < length xs → spelled (take
 spelled_more xs i h = ap spelled (take_more xs i 0 h) ∙ spelled_push (take i xs) (slice_index xs i)
 
 -- the first i bits spell less than any more of them could
-pub spelled_front : (xs : List ℕ) (i k : ℕ) → All (λ b. b < 2) xs → i ≤ k → i ≤ length xs → spelled (take i xs) < 2 ^ k
+pub spelled_front : (xs : List ℕ) (i k : ℕ) → AllByRecursion (λ b. b < 2) xs → i ≤ k → i ≤ length xs → spelled (take i xs) < 2 ^ k
 spelled_front xs i k a few within =
     let long = length-take-le i xs within in
     lt_of_lt_of_le (subst (λ (n : ℕ). spelled (take i xs) < 2 ^ n) long (spelled_small (take i xs) (All-take (λ b. b < 2) i xs a))) (pow_mono {i = i} {j = k} few)
@@ -85,7 +85,7 @@ spelled_append (x ∷ xs) ys =
     omega (arith, high, add-mul (x * 2 ^ length xs) (spelled xs) p, spelled_append xs ys)
 
 -- the first w bits, as a program shifts them out
-pub spelled_head : (bs : List ℕ) (w : ℕ) → w ≤ length bs → All (λ b. b < 2) bs → spelled bs / 2 ^ (length bs - w) ≡ spelled (take w bs)
+pub spelled_head : (bs : List ℕ) (w : ℕ) → w ≤ length bs → AllByRecursion (λ b. b < 2) bs → spelled bs / 2 ^ (length bs - w) ≡ spelled (take w bs)
 spelled_head bs w h a =
     let k = length bs - w in
     let back : length (drop w bs) ≡ k = length-drop w bs in

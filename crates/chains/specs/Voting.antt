@@ -1,7 +1,7 @@
 -- Reed's votes find every bit of a word that lies near enough. Assumes nothing.
 use Rattle.std.specs.Prelude.{◌≡◌, ℕ, zero, suc, ◌+◌, ◌*◌, ◌%◌, ◌<◌, ◌≤◌, min, Bool, true, false, cond, ◌&&◌, List, [], ◌∷◌, length, drop, replicate, ◌==◌, ◌≢◌, nat_lt, refl}
 use Rattle.std.proofs.Common.{sym, ap, ◌∙◌, add-mul, arith}
-use Rattle.std.specs.List.{AllByRecursion as All}
+use Rattle.std.specs.List.{AllByRecursion}
 use Rattle.std.proofs.ByRecursion.{All-weaker}
 use Rattle.std.proofs.lemmas.List.{length-replicate}
 use Rattle.std.proofs.lemmas.Bool.{eqb-true, eqb-false, lt-ltb, le-ltb}
@@ -21,12 +21,12 @@ overlay n (set ∷ sets) = sums set (overlay n sets)
 
 -- a check sum of a bit: odd on its own column and even on the later ones
 abbrev pub GoodSet : ℕ → List ℕ → List Column → List ℕ → Type 0
-GoodSet n own later set = Cells n set × (meet set own % 2 ≡ 1) × All (λ (d : Column). meet set d.reaches % 2 ≡ 0) later
+GoodSet n own later set = Cells n set × (meet set own % 2 ≡ 1) × AllByRecursion (λ (d : Column). meet set d.reaches % 2 ≡ 0) later
 
 -- every column has such check sums, and each cell is in just one of them
 abbrev pub Good : ℕ → List Column → Type 0
 Good n [] = Unit {0}
-Good n (c ∷ cs) = Cells n c.reaches × All (GoodSet n c.reaches cs) c.checks × (overlay n c.checks ≡ replicate n 1) × Good n cs
+Good n (c ∷ cs) = Cells n c.reaches × AllByRecursion (GoodSet n c.reaches cs) c.checks × (overlay n c.checks ≡ replicate n 1) × Good n cs
 
 pub added_cells : (n : ℕ) (x y : List ℕ) → Cells n x → Cells n y → Cells n (added x y)
 added_cells n [] y fx fy = (fx.0, tt)
@@ -52,7 +52,7 @@ meet_added n (s ∷ set) (a ∷ x) (b ∷ y) fs fx fy =
     omega (arith, meet_at s a b fs.1.0 fx.1.0 fy.1.0, meet_added (length set) set x y (refl, fs.1.1) (omega (arith, fs.0, fx.0), fx.1.1) (omega (arith, fs.0, fy.0), fy.1.1))
 
 -- a set that is even on every column has the sum that was there before they were laid
-meet_laid : (n : ℕ) (set : List ℕ) (cs : List Column) (bs y : List ℕ) → Cells n set → Good n cs → Cells n y → All (λ (d : Column). meet set d.reaches % 2 ≡ 0) cs → meet set (laid cs bs y) % 2 ≡ meet set y % 2
+meet_laid : (n : ℕ) (set : List ℕ) (cs : List Column) (bs y : List ℕ) → Cells n set → Good n cs → Cells n y → AllByRecursion (λ (d : Column). meet set d.reaches % 2 ≡ 0) cs → meet set (laid cs bs y) % 2 ≡ meet set y % 2
 meet_laid n set [] bs y fs good fy even = refl
 meet_laid n set (c ∷ cs) [] y fs good fy even = refl
 meet_laid n set (c ∷ cs) (b ∷ bs) y fs good fy even =
@@ -144,7 +144,7 @@ length_sums n [] b la lb = la
 length_sums n (x ∷ a) [] la lb = absurd (omega arith)
 length_sums n (x ∷ a) (y ∷ b) la lb = ap suc (length_sums (length a) a b refl (omega arith)) ∙ la
 
-length_overlay : (n : ℕ) (sets : List (List ℕ)) → All (λ set. length set ≡ n) sets → length (overlay n sets) ≡ n
+length_overlay : (n : ℕ) (sets : List (List ℕ)) → AllByRecursion (λ set. length set ≡ n) sets → length (overlay n sets) ≡ n
 length_overlay n [] all = length-replicate {A = ℕ} n 0
 length_overlay n (set ∷ sets) all = length_sums n set (overlay n sets) all.0 (length_overlay n sets all.1)
 
@@ -153,7 +153,7 @@ module _ (n b o : ℕ) (y m e : List ℕ) (other : b + o ≡ 1) (fe : Cells n e)
   abbrev Reads : List ℕ → Type 0
   Reads set = Cells n set × (meet set e % 2 ≡ (meet set y + b) % 2)
 
-  sets_vote : (sets : List (List ℕ)) → All Reads sets → length sets + votes o sets y m ≤ votes b sets y m + weigh (overlay n sets) (hurts e m)
+  sets_vote : (sets : List (List ℕ)) → AllByRecursion Reads sets → length sets + votes o sets y m ≤ votes b sets y m + weigh (overlay n sets) (hurts e m)
   sets_vote [] all = omega arith
   sets_vote (set ∷ sets) all =
       let weight = weigh_set n set e m all.0.0 fe fm in
@@ -163,13 +163,13 @@ module _ (n b o : ℕ) (y m e : List ℕ) (other : b + o ≡ 1) (fe : Cells n e)
       omega (arith, here, sum, sets_vote sets all.1)
 
   -- where each cell is in one set and the harm is less than the number of sets, more speak for b
-  more_votes : (sets : List (List ℕ)) → All Reads sets → overlay n sets ≡ replicate n 1 → left_harm e m < length sets → votes o sets y m < votes b sets y m
+  more_votes : (sets : List (List ℕ)) → AllByRecursion Reads sets → overlay n sets ≡ replicate n 1 → left_harm e m < length sets → votes o sets y m < votes b sets y m
   more_votes sets all cover near =
       let long = length_hurts e m (fe.0 ∙ sym fm.0) ∙ fe.0 in
       let whole : weigh (overlay n sets) (hurts e m) ≡ left_harm e m = ap (λ set. weigh set (hurts e m)) cover ∙ weigh_all n (hurts e m) long ∙ total_hurts e m in
       omega (arith, sets_vote sets all, whole)
 
-elects : (n b : ℕ) (y m e : List ℕ) (sets : List (List ℕ)) → b < 2 → Cells n e → Cells n m → All (λ set. Cells n set × (meet set e % 2 ≡ (meet set y + b) % 2)) sets → overlay n sets ≡ replicate n 1 → left_harm e m < length sets → elected sets y m ≡ b
+elects : (n b : ℕ) (y m e : List ℕ) (sets : List (List ℕ)) → b < 2 → Cells n e → Cells n m → AllByRecursion (λ set. Cells n set × (meet set e % 2 ≡ (meet set y + b) % 2)) sets → overlay n sets ≡ replicate n 1 → left_harm e m < length sets → elected sets y m ≡ b
 elects n zero y m e sets small fe fm all cover near =
     let more = more_votes n 0 1 y m e refl fe fm sets all cover near in
     ap (λ t. cond t 1 0) (le-ltb (votes 0 sets y m) (votes 1 sets y m) (omega arith))
@@ -189,7 +189,7 @@ reads n b c cs bs y set small good fy gs =
     by_bit (suc (suc k)) h = absurd (omega arith)
 
 -- the votes find the bits of every word that lies nearer than there are check sums
-pub settles : (n : ℕ) (cs : List Column) (bs y m : List ℕ) → Good n cs → Cells n y → Cells n m → All (λ b. b < 2) bs → length bs ≡ length cs → All (λ (c : Column). left_harm (laid cs bs y) m < length c.checks) cs → settled cs y m ≡ bs
+pub settles : (n : ℕ) (cs : List Column) (bs y m : List ℕ) → Good n cs → Cells n y → Cells n m → AllByRecursion (λ b. b < 2) bs → length bs ≡ length cs → AllByRecursion (λ (c : Column). left_harm (laid cs bs y) m < length c.checks) cs → settled cs y m ≡ bs
 settles n [] [] y m good fy fm bits long near = refl
 settles n [] (b ∷ bs) y m good fy fm bits long near = absurd (omega arith)
 settles n (c ∷ cs) [] y m good fy fm bits long near = absurd (omega arith)
@@ -208,7 +208,7 @@ length_settled (c ∷ cs) y m = ap suc (length_settled cs (turned (elected c.che
 pub elected_small : (sets : List (List ℕ)) (y m : List ℕ) → elected sets y m < 2
 elected_small sets y m = elim (nat_lt (votes 0 sets y m) (votes 1 sets y m)) as (λ t. cond t 1 0 < 2) [ true ↦ omega arith | false ↦ omega arith ]
 
-pub settled_small : (cs : List Column) (y m : List ℕ) → All (λ b. b < 2) (settled cs y m)
+pub settled_small : (cs : List Column) (y m : List ℕ) → AllByRecursion (λ b. b < 2) (settled cs y m)
 settled_small [] y m = tt
 settled_small (c ∷ cs) y m = (elected_small c.checks y m, settled_small cs (turned (elected c.checks y m) c y) m)
 

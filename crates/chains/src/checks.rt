@@ -1,6 +1,6 @@
 // The checks that the calls of every chain make, over the label widths of its stages.
 ghost use Rattle.std.specs.Prelude.{◌≡◌, ◌≤◌, length};
-ghost use Rattle.std.specs.List.{AllByRecursion as All};
+ghost use Rattle.std.specs.List.{AllByRecursion};
 ghost use Rattle.words.specs.Buffers.{checked, given};
 ghost use Rattle.chains.specs.Model.{at_stage};
 ghost use Rattle.chains.specs.Refusals.{stage_refusal, large_label, sized, binary, word_refusal, estimate_refusal};
@@ -39,7 +39,7 @@ fn binary(content: &[u8], wanted: usize) -> Buffer<'_>
 }
 
 fn check_labels(widths: &[u8], labels: &[u8]) -> Result<(), Fault>
-    requires { (All (λ w. w ≤ 8) widths.now) × (length labels.now ≤ length widths.now) }
+    requires { (AllByRecursion (λ w. w ≤ 8) widths.now) × (length labels.now ≤ length widths.now) }
     ensures { result ≡ checked (large_label (at_stage widths.now) 0 labels.now) }
 {
     for (i, label) in labels.iter().enumerate() {
@@ -57,7 +57,7 @@ pub(crate) fn check_row(
     labels: &[u8],
     cells: &[u8],
 ) -> Result<(), Fault>
-    requires { All (λ w. w ≤ 8) widths.now }
+    requires { AllByRecursion (λ w. w ≤ 8) widths.now }
     ensures { result ≡ checked (word_refusal breadth (length widths.now) (at_stage widths.now) labels.now cells.now) }
 {
     check_buffers(
@@ -76,7 +76,7 @@ pub(crate) fn check_reading(
     cells: &[u8],
     marks: &[u8],
 ) -> Result<(), Fault>
-    requires { All (λ w. w ≤ 8) widths.now }
+    requires { AllByRecursion (λ w. w ≤ 8) widths.now }
     ensures { result ≡ checked (estimate_refusal breadth (length widths.now) (at_stage widths.now) stage labels.now cells.now marks.now) }
 {
     check_stage(widths.len(), stage)?;

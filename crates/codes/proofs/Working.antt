@@ -1,6 +1,6 @@
 -- What a call owes once its buffers have passed. Assumes nothing.
 use Rattle.std.proofs.Common.{◌≡◌, ℕ, ◌*◌, ◌%◌, ◌^◌, ◌<◌, ◌≤◌, List, [], ◌∷◌, length, IsErrAnd, None, Ok, Err, Result, sym, refl, ap, ◌∙◌, subst, mod-eq_of_lt, one-mul, arith, pow_mono}
-use Rattle.std.specs.List.{AllByRecursion as All}
+use Rattle.std.specs.List.{AllByRecursion}
 use Rattle.words.specs.declared.fault.Fault.{Fault}
 use Rattle.words.specs.declared.fault.Kind.TheVariants.{NoCodeword}
 use Rattle.words.specs.declared.fault.Layer.TheVariants.{Code}
@@ -47,7 +47,7 @@ module _ (c : CodeModel) where
   word_fits message word e =
       let f = fits_from_none Code (message_of_buffers (2 ^ c.width) message word) e in (f.1.0, f.0.0)
 
-  pub damage_fits : (word marks : List ℕ) → refusal Code (correct_buffers (2 ^ c.width) word marks) ≡ None → Symbols c.width c.len word × ((length marks ≡ c.len) × All (λ m. m < 2) marks)
+  pub damage_fits : (word marks : List ℕ) → refusal Code (correct_buffers (2 ^ c.width) word marks) ≡ None → Symbols c.width c.len word × ((length marks ≡ c.len) × AllByRecursion (λ m. m < 2) marks)
   damage_fits word marks e = let f = fits_from_none Code (correct_buffers (2 ^ c.width) word marks) e in (f.0, f.1.0)
 
   pub recovered : (word message message' : List ℕ) → refusal Code (message_of_buffers (2 ^ c.width) message word) ≡ None → Message c message' → c.codeword message' ≡ word → Recovered c word message message' (Ok tt)

@@ -1,12 +1,12 @@
 -- What a code means, and the law that it keeps. Assumes nothing.
 use Rattle.std.specs.Prelude.{◌≡◌, ℕ, ◌^◌, ◌<◌, ◌≤◌, List, length, ◌≢◌}
-use Rattle.std.specs.List.{AllByRecursion as All}
+use Rattle.std.specs.List.{AllByRecursion}
 use Rattle.words.specs.Distance.{differences}
 use Rattle.words.specs.Harm.{harm}
 
 -- a row of n symbols of m bits each
 abbrev pub Symbols : ℕ → ℕ → List ℕ → Type 0
-Symbols m n xs = (length xs ≡ n) × All (λ x. x < 2 ^ m) xs
+Symbols m n xs = (length xs ≡ n) × AllByRecursion (λ x. x < 2 ^ m) xs
 
 -- a block code: a map from messages of K symbols to codewords of N symbols
 pub record CodeModel : Type 1 where

@@ -1,7 +1,7 @@
 -- One symbol many times over, and how often a word holds it. Assumes nothing.
 use Rattle.std.specs.Prelude.{◌≡◌, ℕ, zero, suc, ◌+◌, ◌*◌, ◌^◌, ◌<◌, ◌≤◌, Bool, true, false, cond, ◌&&◌, List, [], ◌∷◌, length, drop, replicate, ◌==◌, ◌≢◌, slice_index, slice_set, refl}
 use Rattle.std.proofs.Common.{sym, ap, ap₂, subst, ◌∙◌, arith}
-use Rattle.std.specs.List.{AllByRecursion as All}
+use Rattle.std.specs.List.{AllByRecursion}
 use Rattle.std.proofs.lemmas.List.{drop_more, drop_all, length-replicate, get_or-set_same, get_or-set_other, get_or-replicate}
 use Rattle.std.proofs.lemmas.Bool.{eq-eqb, ne_eqb, eqb-true, eqb-false}
 use Rattle.words.specs.Distance.{differences}
@@ -57,7 +57,7 @@ single [] l = absurd (omega arith)
 single (x ∷ []) l = refl
 single (x ∷ y ∷ u) l = absurd (omega arith)
 
-pub all_replicate : (P : ℕ → Type 0) (n x : ℕ) → P x → All P (replicate n x)
+pub all_replicate : (P : ℕ → Type 0) (n x : ℕ) → P x → AllByRecursion P (replicate n x)
 all_replicate P zero x p = tt
 all_replicate P (suc n) x p = (p, all_replicate P n x p)
 
@@ -65,7 +65,7 @@ replicates_differ : (n x y : ℕ) → (x ≢ y) → n ≤ differences (replicate
 replicates_differ zero x y ne = omega arith
 replicates_differ (suc n) x y ne = rw (ne_eqb x y ne) (omega (arith, replicates_differ n x y ne))
 
-pub first_symbol : (m : ℕ) (u : List ℕ) → length u ≡ 1 → All (λ x. x < 2 ^ m) u → slice_index u 0 < 2 ^ m
+pub first_symbol : (m : ℕ) (u : List ℕ) → length u ≡ 1 → AllByRecursion (λ x. x < 2 ^ m) u → slice_index u 0 < 2 ^ m
 first_symbol m [] l a = absurd (omega arith)
 first_symbol m (x ∷ u) l a = a.0
 
@@ -83,7 +83,7 @@ repetition_lawful m n h =
     }
 
 -- a row whose symbols are all x
-pub all_same : (x : ℕ) (xs : List ℕ) → All (λ y. y ≡ x) xs → xs ≡ replicate (length xs) x
+pub all_same : (x : ℕ) (xs : List ℕ) → AllByRecursion (λ y. y ≡ x) xs → xs ≡ replicate (length xs) x
 all_same x [] a = refl
 all_same x (y ∷ xs) a = ap₂ (λ h t. h ∷ t) a.0 (all_same x xs a.1)
 

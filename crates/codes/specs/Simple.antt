@@ -1,7 +1,7 @@
 -- What the simple kinds of code rest on. Assumes nothing.
 use Rattle.std.specs.Prelude.{◌≡◌, ℕ, zero, suc, ◌+◌, ◌<◌, ◌≤◌, Bool, true, false, cond, List, [], ◌∷◌, length, ◌==◌, ◌≢◌, slice_index, refl}
 use Rattle.std.proofs.Common.{sym, ap₂, ◌∙◌, le_of_suc-le-suc, not-suc-le-zero, arith}
-use Rattle.std.specs.List.{AllByRecursion as All}
+use Rattle.std.specs.List.{AllByRecursion}
 use Rattle.std.proofs.lemmas.Bool.{eqb-true, eq-eqb, ne_eqb}
 use Rattle.words.specs.Distance.{differences}
 use Rattle.words.specs.Harm.{harm}
@@ -43,7 +43,7 @@ blank_harms (w ∷ word) (m ∷ marks) (c ∷ codeword) (suc i) lm lc l ne =
     omega (arith, blank_harms word marks codeword i (omega arith) (omega arith) (le_of_suc-le-suc l) ne)
 
 -- a word with no blank place is not harmed against itself
-pub no_harm : (word marks : List ℕ) → All (λ m. m ≡ 0) marks → harm word marks word ≡ 0
+pub no_harm : (word marks : List ℕ) → AllByRecursion (λ m. m ≡ 0) marks → harm word marks word ≡ 0
 no_harm [] marks a = refl
 no_harm (w ∷ word) [] a = refl
 no_harm (w ∷ word) (m ∷ marks) a = rw (eq-eqb m 0 a.0, eq-eqb w w refl) (omega (arith, no_harm word marks a.1))

@@ -1,6 +1,6 @@
 // The repetition code: one symbol, N times over.
 ghost use Rattle.std.specs.Prelude.{◌≡◌, ℕ, ◌<◌, ◌≤◌, length, replicate, Ok};
-ghost use Rattle.std.specs.List.{AllByRecursion as All};
+ghost use Rattle.std.specs.List.{AllByRecursion};
 ghost use Rattle.words.specs.Harm.{harm as harm_of};
 ghost use Rattle.codes.specs.Kinds.{repetition_code, readable_count, MostFrequent, Counted};
 ghost use Rattle.codes.specs.Making.{InRange, Made};
@@ -71,7 +71,7 @@ fn majority(word: &[u8], marks: &[u8], symbols: usize) -> u8
 }
 
 fn harm_against(word: &[u8], marks: &[u8], symbol: u8) -> Result<usize, Fault>
-    requires { (length word.now ≤ 4096) × ((length marks.now ≡ length word.now) × (All (λ m. m < 2) marks.now)) }
+    requires { (length word.now ≤ 4096) × ((length marks.now ≡ length word.now) × (AllByRecursion (λ m. m < 2) marks.now)) }
     ensures { result ≡ Ok (harm_of word.now marks.now (replicate (length word.now) symbol)) }
 {
     let codeword = [symbol; 4096];

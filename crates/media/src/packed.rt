@@ -1,6 +1,6 @@
 // Packed cells: two bits a cell, its value and its mark.
 ghost use Rattle.std.specs.Prelude.{◌≡◌, ◌+◌, ◌-◌, ◌*◌, ◌/◌, ◌%◌, ◌^◌, ◌<◌, ◌≤◌, true, map, length, is_err, if◌then◌else◌, MatchResult, bit_and, bit_or, nat_eq};
-ghost use Rattle.std.specs.List.{range_with_len, AllByRecursion as All};
+ghost use Rattle.std.specs.List.{range_with_len, AllByRecursion};
 ghost use Rattle.media_laws.specs.Model.{value_of, mark_of, Unchanged};
 ghost use Rattle.media_laws.specs.Packed.{row_bytes, first_value, first_mark, bit_of, cell_of, cell_at, put_bit, BitSet, BitsPut, BitsWorn};
 ghost use Rattle.media_laws.proofs.Packs.{packed_lawful};
@@ -86,7 +86,7 @@ fn put_cell(bytes: &mut [u8], value: usize, mark: usize, cell: u8)
 fn store(bytes: &mut [u8], first_value: usize, first_mark: usize, cells: &[u8])
     requires apart { first_value + length cells.now ≤ first_mark }
     requires within { (first_mark + length cells.now ≤ 8 * length bytes.old) × (length bytes.old < 2 ^ 60) }
-    requires cells { All (λ v. v < 2) cells.now }
+    requires cells { AllByRecursion (λ v. v < 2) cells.now }
     ensures { BitsPut bytes.old bytes.new first_value first_mark cells.now (length cells.now) }
 {
     for (i, cell) in cells.iter().enumerate() {

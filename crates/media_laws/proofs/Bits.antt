@@ -1,7 +1,7 @@
 -- A bit of some bytes takes a value, and the others stay. Assumes nothing.
 use Rattle.std.proofs.Common.{◌≡◌, ℕ, ◌+◌, ◌-◌, ◌*◌, ◌/◌, ◌%◌, ◌^◌, ◌<◌, Bool, true, false, cond, eqb, List, length, get_or, set, replicate, sym, refl, ap, ◌∙◌, ap₂, ⊎_elim, arith}
 use lib.Bits.{bit_and, bit_or}
-use Rattle.std.specs.List.{AllByRecursion as All}
+use Rattle.std.specs.List.{AllByRecursion}
 use Rattle.std.proofs.ByRecursion.{All-get_or}
 use Rattle.std.proofs.lemmas.List.{length-set, get_or-set_same, get_or-set_other, ext_get_or}
 use Rattle.std.proofs.lemmas.Bool.{cases_eq, eq-eqb, ne_eqb, eqb-true}
@@ -93,7 +93,7 @@ byte_spelt : (b : ℕ) → b < 256 → spelt (λ j. b / 2 ^ (7 - j) % 2) ≡ b
 byte_spelt b l = eqb-true _ _ (entry_passes spells (replicate {A = ℕ} 256 0) refl b 0 l)
 
 -- bytes are given by their bits
-pub same_bytes : (b b' : List ℕ) → length b' ≡ length b → All (λ x. x < 256) b → All (λ x. x < 256) b' → ((k : ℕ) → bit_of b' k ≡ bit_of b k) → b' ≡ b
+pub same_bytes : (b b' : List ℕ) → length b' ≡ length b → AllByRecursion (λ x. x < 256) b → AllByRecursion (λ x. x < 256) b' → ((k : ℕ) → bit_of b' k ≡ bit_of b k) → b' ≡ b
 same_bytes b b' long small small' same =
     ext_get_or 0 b' b long
     (λ i l.

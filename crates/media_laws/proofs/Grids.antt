@@ -1,7 +1,7 @@
 -- The grid keeps the laws of a medium, and its calls change just what they should. Assumes nothing.
 use Rattle.std.proofs.Common.{◌≡◌, ℕ, suc, ◌+◌, ◌*◌, ◌<◌, ◌≤◌, List, [], ◌∷◌, map, length, set, refl, ap, ◌∙◌, ap₂, arith}
 use borrow.Rule.Slice.PartMut.{put_mid}
-use Rattle.std.specs.List.{AllByRecursion as All}
+use Rattle.std.specs.List.{AllByRecursion}
 use Rattle.std.proofs.lemmas.List.{length-map, map-set}
 use Rattle.std.proofs.lemmas.Bool.Decides.{nat_tests}
 use Rattle.media_laws.specs.Grid.{grid, GridFits, state_of, page_bytes, put_byte, put_bytes}
@@ -11,7 +11,7 @@ use Rattle.media_laws.proofs.Pages.{length_page, page_put, page_kept, page_set, 
 state_small : (b : ℕ) → state_of b < 3
 state_small b = grind (arith, nat_tests)
 
-all_states : (bytes : List ℕ) → All (λ s. s < 3) (map state_of bytes)
+all_states : (bytes : List ℕ) → AllByRecursion (λ s. s < 3) (map state_of bytes)
 all_states [] = tt
 all_states (b ∷ bytes) = (state_small b, all_states bytes)
 
@@ -28,7 +28,7 @@ grid_lawful bytes pages breadth h =
 put_state : (b v : ℕ) → v < 2 → state_of (put_byte b v) ≡ put_to (state_of b) v
 put_state b v l = grind (arith, nat_tests)
 
-pub put_states : (bytes cells : List ℕ) → All (λ v. v < 2) cells → map state_of (put_bytes bytes cells) ≡ stored (map state_of bytes) cells
+pub put_states : (bytes cells : List ℕ) → AllByRecursion (λ v. v < 2) cells → map state_of (put_bytes bytes cells) ≡ stored (map state_of bytes) cells
 put_states [] cells a = refl
 put_states (b ∷ bytes) [] a = refl
 put_states (b ∷ bytes) (v ∷ cells) a = ap₂ (λ s rest. s ∷ rest) (put_state b v a.0) (put_states bytes cells a.1)
@@ -39,7 +39,7 @@ length_put (b ∷ bytes) [] = refl
 length_put (b ∷ bytes) (v ∷ cells) = ap suc (length_put bytes cells)
 
 module _ (bytes : List ℕ) (pages breadth : ℕ) (fits : GridFits bytes pages breadth) (p : ℕ) (within : p < pages) where
-  pub grid_put : (cells : List ℕ) → All (λ v. v < 2) cells → Changed (grid bytes pages breadth) (grid (put_mid (p * breadth) breadth bytes (put_bytes (page_bytes bytes breadth p) cells)) pages breadth) p (stored (map state_of (page_bytes bytes breadth p)) cells)
+  pub grid_put : (cells : List ℕ) → AllByRecursion (λ v. v < 2) cells → Changed (grid bytes pages breadth) (grid (put_mid (p * breadth) breadth bytes (put_bytes (page_bytes bytes breadth p) cells)) pages breadth) p (stored (map state_of (page_bytes bytes breadth p)) cells)
   grid_put cells small =
       let new = put_bytes (page_bytes bytes breadth p) cells in
       let long : length new ≡ breadth = length_put (page_bytes bytes breadth p) cells ∙ length_page bytes breadth pages fits.2 p within in

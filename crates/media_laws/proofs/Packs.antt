@@ -1,6 +1,6 @@
 -- Packed cells keep the laws of a medium, and their calls change just what they should. Assumes nothing.
 use Rattle.std.proofs.Common.{◌≡◌, ℕ, zero, suc, ◌+◌, ◌*◌, ◌^◌, ◌<◌, ◌≤◌, Bool, true, false, cond, eqb, List, [], ◌∷◌, map, length, get_or, set, sym, refl, ap, ◌∙◌, subst, ap₂, ⊎_elim, le_of_suc-le-suc, not-suc-le-zero, arith}
-use Rattle.std.specs.List.{range_with_len, AllByRecursion as All}
+use Rattle.std.specs.List.{range_with_len, AllByRecursion}
 use Rattle.std.proofs.lemmas.Nat.{mul-le}
 use Rattle.std.proofs.lemmas.List.FromFn.{length-map-range_with_len, get_or-map-range_with_len, fill_by_all}
 use Rattle.std.proofs.lemmas.List.{length-set, get_or-set_same, get_or-set_other}
@@ -13,7 +13,7 @@ use Rattle.media_laws.proofs.Pages.{page_end}
 cell_small : (value mark : ℕ) → value < 2 → cell_of value mark < 3
 cell_small value mark l = grind (arith, nat_tests)
 
-all_cells : (bytes : List ℕ) (v m : ℕ) (is : List ℕ) → All (λ s. s < 3) (map (cell_at bytes v m) is)
+all_cells : (bytes : List ℕ) (v m : ℕ) (is : List ℕ) → AllByRecursion (λ s. s < 3) (map (cell_at bytes v m) is)
 all_cells bytes v m [] = tt
 all_cells bytes v m (i ∷ is) = (cell_small (bit_of bytes (v + i)) (bit_of bytes (m + i)) (omega arith), all_cells bytes v m is)
 

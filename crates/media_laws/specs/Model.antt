@@ -1,6 +1,6 @@
 -- What a medium means: the state of each of its cells. Assumes nothing.
 use Rattle.std.specs.Prelude.{◌≡◌, ℕ, ◌<◌, ◌≤◌, cond, List, [], ◌∷◌, length, ◌==◌, ◌≢◌}
-use Rattle.std.specs.List.{AllByRecursion as All}
+use Rattle.std.specs.List.{AllByRecursion}
 
 -- the states of a cell are 0, 1 and 2, which is blank
 pub record MediumModel : Type 0 where
@@ -14,7 +14,7 @@ pub record LawfulMedium (m : MediumModel) : Type 0 where
   pub few_pages : m.pages ≤ 65535
   pub some_cells : 1 ≤ m.breadth
   pub few_cells : m.breadth ≤ 4096
-  pub states : (p : ℕ) → p < m.pages → (length (m.page p) ≡ m.breadth) × All (λ s. s < 3) (m.page p)
+  pub states : (p : ℕ) → p < m.pages → (length (m.page p) ≡ m.breadth) × AllByRecursion (λ s. s < 3) (m.page p)
 
 -- a cell as it is fetched: a blank one is given as 0 with the mark 1
 abbrev pub value_of : ℕ → ℕ

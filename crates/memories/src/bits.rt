@@ -1,6 +1,6 @@
 // A page's bytes as the bits of a message, most significant bit first.
 ghost use Rattle.std.specs.Prelude.{◌≡◌, ℕ, ◌*◌, ◌<◌, ◌≤◌, length, count_by, MatchResult, nat_eq, slice_index};
-ghost use Rattle.std.specs.List.{AllByRecursion as All};
+ghost use Rattle.std.specs.List.{AllByRecursion};
 ghost use Rattle.words.specs.declared.fault.Kind.TheVariants.{SpareBitSet};
 ghost use Rattle.words.specs.declared.fault.Layer.TheVariants.{Memory as the_memory};
 ghost use Rattle.words.specs.Faults.{fault};
@@ -51,7 +51,7 @@ pub(crate) fn count_marks(marks: &[u8]) -> usize
 }
 
 fn gather_byte(bits: &[u8]) -> u8
-    requires { (length bits.now ≡ 8) × (All (λ b. b < 2) bits.now) }
+    requires { (length bits.now ≡ 8) × (AllByRecursion (λ b. b < 2) bits.now) }
     ensures { result ≡ byte_at bits.now }
 {
     let byte = 128 * u16::from(bits[0])
@@ -67,7 +67,7 @@ fn gather_byte(bits: &[u8]) -> u8
 
 /// Fills a payload from the bits of a message.
 pub(crate) fn gather(message: &[u8], payload: &mut [u8])
-    requires { (8 * length payload.old ≤ length message.now) × (All (λ b. b < 2) message.now) }
+    requires { (8 * length payload.old ≤ length message.now) × (AllByRecursion (λ b. b < 2) message.now) }
     ensures { payload.new ≡ bytes_of (length payload.old) message.now }
 {
     for i in 0..payload.len() {
@@ -78,7 +78,7 @@ pub(crate) fn gather(message: &[u8], payload: &mut [u8])
 
 /// Refuses a message with a spare bit that is 1, at the first such bit.
 pub(crate) fn check_spare(message: &[u8]) -> Result<(), Fault>
-    requires { All (λ b. b < 2) message.now }
+    requires { AllByRecursion (λ b. b < 2) message.now }
     ensures { MatchResult result (λ _. SpareClear (length message.now) message.now) (λ f. (bit : ℕ) × (f ≡ fault SpareBitSet the_memory bit) × (8 * page_bytes (length message.now) ≤ bit) × (slice_index message.now bit ≡ 1) × ((i : ℕ) → 8 * page_bytes (length message.now) ≤ i → i < bit → slice_index message.now i ≡ 0)) }
 {
     let used = 8 * (message.len() / 8);

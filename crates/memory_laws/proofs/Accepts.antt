@@ -1,6 +1,6 @@
 -- The parts of a memory accept what it hands them. Assumes nothing.
 use Rattle.std.proofs.Common.{◌≡◌, ℕ, zero, suc, ◌-◌, ◌^◌, ◌<◌, ◌≤◌, Bool, true, false, cond, eqb, List, [], ◌∷◌, map, length, take, replicate, None, Ok, Err, count_by, Result, sym, refl, ap, ◌∙◌, subst, arith, lt-ltb}
-use Rattle.std.specs.List.{AllByRecursion as All}
+use Rattle.std.specs.List.{AllByRecursion}
 use Rattle.std.proofs.ByRecursion.{All-weaker}
 use Rattle.std.proofs.lemmas.List.{length-replicate, take-replicate}
 use Rattle.std.proofs.lemmas.Option.{MatchOption-at_none}
@@ -21,18 +21,18 @@ use Rattle.memory_laws.proofs.Steps.{carrying_message}
 pub page_passes : (m : MediumModel) (p : ℕ) → p < m.pages → page_refusal m p ≡ None
 page_passes m p l = rw (lt-ltb p m.pages l)
 
-pub encode_accepts : (c : CodeModel) (message word word' : List ℕ) (r : Result (Unit {0}) Fault) → Message c message → length word ≡ c.len → All (λ b. b < 256) word → Encoded c message word word' r → (r ≡ Ok tt) × (word' ≡ c.codeword message)
+pub encode_accepts : (c : CodeModel) (message word word' : List ℕ) (r : Result (Unit {0}) Fault) → Message c message → length word ≡ c.len → AllByRecursion (λ b. b < 256) word → Encoded c message word word' r → (r ≡ Ok tt) × (word' ≡ c.codeword message)
 encode_accepts c message word word' r mu long bytes e =
     MatchOption-at_none _ _ (none_from_fits Code (values_below (2 ^ c.width) c.message_len message ∷ written_to c.len word ∷ []) (mu, ((long, bytes), tt))) e
 
 pub put_accepts : (m m' : MediumModel) (c : CodeModel) (p : ℕ) (u : List ℕ) (r : Result (Unit {0}) Fault) → Lawful c → Joins m c → p < m.pages → Message c u → Put m m' p (c.codeword u) r → (r ≡ Ok tt) × Changed m m' p (stored (m.page p) (c.codeword u))
 put_accepts m m' c p u r lc j l mu w =
     let s = lc.symbols u mu in
-    let bits = subst (λ (x : ℕ). All (λ v. v < 2 ^ x) (c.codeword u)) j.bits s.1 in
+    let bits = subst (λ (x : ℕ). AllByRecursion (λ v. v < 2 ^ x) (c.codeword u)) j.bits s.1 in
     let none : either (page_refusal m p) (refusal Medium (values_below 2 m.breadth (c.codeword u) ∷ [])) ≡ None = ap (λ due. either due (refusal Medium (values_below 2 m.breadth (c.codeword u) ∷ []))) (page_passes m p l) ∙ none_from_fits Medium (values_below 2 m.breadth (c.codeword u) ∷ []) ((s.0 ∙ j.same_length, bits), tt) in
     MatchOption-at_none _ _ none w
 
-pub fetch_accepts : (m m' : MediumModel) (p : ℕ) (cells marks cells' marks' : List ℕ) (r : Result (Unit {0}) Fault) → p < m.pages → length cells ≡ m.breadth → All (λ b. b < 256) cells → length marks ≡ m.breadth → All (λ b. b < 256) marks → Fetched m m' p cells marks cells' marks' r → Unchanged m m' × ((r ≡ Ok tt) × (cells' ≡ map value_of (m.page p)) × (marks' ≡ map mark_of (m.page p)))
+pub fetch_accepts : (m m' : MediumModel) (p : ℕ) (cells marks cells' marks' : List ℕ) (r : Result (Unit {0}) Fault) → p < m.pages → length cells ≡ m.breadth → AllByRecursion (λ b. b < 256) cells → length marks ≡ m.breadth → AllByRecursion (λ b. b < 256) marks → Fetched m m' p cells marks cells' marks' r → Unchanged m m' × ((r ≡ Ok tt) × (cells' ≡ map value_of (m.page p)) × (marks' ≡ map mark_of (m.page p)))
 fetch_accepts m m' p cells marks cells' marks' r l lc bc lm bm w =
     let bs = written_to m.breadth cells ∷ written_to m.breadth marks ∷ [] in
     let none : either (page_refusal m p) (refusal Medium bs) ≡ None = ap (λ due. either due (refusal Medium bs)) (page_passes m p l) ∙ none_from_fits Medium bs ((lc, bc), ((lm, bm), tt)) in
@@ -75,10 +75,10 @@ pub ok_not_err : {X : Type 0} (r : Result X Fault) (x : X) (f : Fault) → r ≡
 ok_not_err r x f a b = let z : ◌≡◌ {A = ℕ} 0 1 = cc in omega arith
 
 -- fresh work space
-pub fresh : (n : ℕ) → (length {A = ℕ} (replicate n 0) ≡ n) × All (λ b. b < 256) (replicate n 0)
+pub fresh : (n : ℕ) → (length {A = ℕ} (replicate n 0) ≡ n) × AllByRecursion (λ b. b < 256) (replicate n 0)
 fresh n = (length-replicate n 0, all_fresh n)
   where
-    all_fresh : (k : ℕ) → All (λ b. b < 256) (replicate k 0)
+    all_fresh : (k : ℕ) → AllByRecursion (λ b. b < 256) (replicate k 0)
     all_fresh zero = tt
     all_fresh (suc k) = (omega arith, all_fresh k)
 
@@ -95,7 +95,7 @@ module _ (m m' m'' : MediumModel) (c : CodeModel) (lc : Lawful c) (j : Joins m c
 
   pub encodes : (word word' : List ℕ) (r : Result (Unit {0}) Fault) → word ≡ replicate c.len 0 → Encoded c (carrying c.message_len payload) word word' r → (r ≡ Ok tt) × (word' ≡ recording c payload)
   encodes word word' r e w =
-      let right = subst (λ (xs : List ℕ). (length xs ≡ c.len) × All (λ b. b < 256) xs) (sym e) (fresh c.len) in
+      let right = subst (λ (xs : List ℕ). (length xs ≡ c.len) × AllByRecursion (λ b. b < 256) xs) (sym e) (fresh c.len) in
       encode_accepts c (carrying c.message_len payload) word word' r its_message right.0 right.1 w
 
   pub puts : (word : List ℕ) (r : Result (Unit {0}) Fault) → word ≡ recording c payload → Put m m' p word r → (r ≡ Ok tt) × Changed m m' p (stored (m.page p) (recording c payload))
@@ -107,10 +107,10 @@ module _ (m m' m'' : MediumModel) (c : CodeModel) (lc : Lawful c) (j : Joins m c
       let l = (payload_passed m c p payload passed).0 in
       let l' : p < m'.pages = omega (arith, changed.pages) in
       let s = lc.symbols (carrying c.message_len payload) its_message in
-      let bits = subst (λ (x : ℕ). All (λ v. v < 2 ^ x) (recording c payload)) j.bits s.1 in
+      let bits = subst (λ (x : ℕ). AllByRecursion (λ v. v < 2 ^ x) (recording c payload)) j.bits s.1 in
       let bytes = All-weaker (λ v. v < 2) (λ v. v < 256) (λ x h. omega arith) (recording c payload) bits in
       let wide = j.same_length ∙ sym changed.breadth in
-      let right = subst (λ (xs : List ℕ). (length xs ≡ c.len) × All (λ b. b < 256) xs) (sym ew) (s.0, bytes) in
-      let clear = subst (λ (xs : List ℕ). (length xs ≡ c.len) × All (λ b. b < 256) xs) (sym em) (fresh c.len) in
+      let right = subst (λ (xs : List ℕ). (length xs ≡ c.len) × AllByRecursion (λ b. b < 256) xs) (sym ew) (s.0, bytes) in
+      let clear = subst (λ (xs : List ℕ). (length xs ≡ c.len) × AllByRecursion (λ b. b < 256) xs) (sym em) (fresh c.len) in
       let got = fetch_accepts m' m'' p word marks word' marks' r l' (right.0 ∙ wide) right.1 (clear.0 ∙ wide) clear.1 w in
       (got.1.0, (changed_then_unchanged m m' m'' p (stored (m.page p) (recording c payload)) l changed got.0, ap (count_by (λ x. eqb x 1)) got.1.2 ∙ marks_blanks (m'.page p) ∙ ap blanks (sym (got.0.states p l'))))

@@ -1,7 +1,7 @@
 -- While the harm is below the reach, reads give back what was written, and patrols and writes are accepted. Assumes nothing.
 use Rattle.std.proofs.Common.{◌≡◌, ℕ, ◌+◌, ◌-◌, ◌*◌, ◌<◌, ◌≤◌, true, List, [], ◌∷◌, length, get_or, drop, is_ok, None, Ok, Err, Result, sym, refl, ap, ◌∙◌, inl, inr, ⊎_elim, arith}
 use Rattle.std.specs.Result as results
-use Rattle.std.specs.List.{AllByRecursion as All}
+use Rattle.std.specs.List.{AllByRecursion}
 use Rattle.std.proofs.ByRecursion.{All-get_or}
 use Rattle.std.proofs.lemmas.List.{get_or-drop, get_or_past}
 use Rattle.std.proofs.lemmas.Option.{MatchOption-at_none}
@@ -51,7 +51,7 @@ module _ (c : CodeModel) (lc : Lawful c) (m : MediumModel) (h : LawfulMedium m) 
       let is = only o.0 o.1 in
       omega (arith, o.5, ap (λ u. get_or u o.2 0) is, zero)
 
-  pub read_gives : (m' : MediumModel) (buffer buffer' : List ℕ) (r : Result ℕ Fault) → length buffer ≡ page_bytes c.message_len → All (λ b. b < 256) buffer → Recalled m m' c p buffer buffer' r → (r ≡ Ok (page_harm m p (recording c payload))) × (buffer' ≡ payload)
+  pub read_gives : (m' : MediumModel) (buffer buffer' : List ℕ) (r : Result ℕ Fault) → length buffer ≡ page_bytes c.message_len → AllByRecursion (λ b. b < 256) buffer → Recalled m m' c p buffer buffer' r → (r ≡ Ok (page_harm m p (recording c payload))) × (buffer' ≡ payload)
   read_gives m' buffer buffer' r long bytes w = by r refl (MatchOption-at_none _ _ (payload_passes m c p buffer within (long, bytes)) w.1)
     where
       by : (r' : Result ℕ Fault) → r ≡ r' → results.MatchResult r' (λ h'. (u : List ℕ) × Restores m c p u × (buffer' ≡ bytes_of (page_bytes c.message_len) u) × (h' ≡ page_harm m p (c.codeword u))) (λ f. Unrestored m c p f × (buffer' ≡ buffer)) → (r ≡ Ok (page_harm m p (recording c payload))) × (buffer' ≡ payload)

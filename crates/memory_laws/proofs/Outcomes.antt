@@ -2,7 +2,7 @@
 use Rattle.std.proofs.Common.{◌≡◌, ℕ, ◌<◌, ◌≤◌, true, false, ◌⊎◌, List, [], ◌∷◌, length, set, is_ok, Some, None, Ok, Err, Option, Result, refl, ap, inl, inr}
 use Rattle.std.specs.Option as options
 use Rattle.std.specs.Result as results
-use Rattle.std.specs.List.{AllByRecursion as All}
+use Rattle.std.specs.List.{AllByRecursion}
 use Rattle.words.specs.declared.fault.Fault.{Fault}
 use Rattle.words.specs.declared.fault.Layer.TheVariants.{Memory}
 use Rattle.words.specs.Buffers.{either, written_to}
@@ -20,7 +20,7 @@ page_there m p e = page_passed p m.pages _ e
 
 -- the payload of an accepted write
 abbrev pub PagePayload : CodeModel → List ℕ → Type 0
-PagePayload c payload = (length payload ≡ page_bytes c.message_len) × All (λ b. b < 256) payload
+PagePayload c payload = (length payload ≡ page_bytes c.message_len) × AllByRecursion (λ b. b < 256) payload
 
 pub payload_passed : (m : MediumModel) (c : CodeModel) (p : ℕ) (payload : List ℕ) → payload_refusal m c p payload ≡ None → (p < m.pages) × PagePayload c payload
 payload_passed m c p payload e =

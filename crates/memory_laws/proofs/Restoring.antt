@@ -1,7 +1,7 @@
 -- A page is fetched, corrected and turned into a message. Assumes nothing.
 use Rattle.std.proofs.Common.{◌≡◌, ℕ, ◌*◌, ◌^◌, ◌<◌, ◌≤◌, List, [], ◌∷◌, map, length, get_or, replicate, None, Ok, Err, Result, sym, refl, ap, ◌∙◌, subst, subst₂, inr, arith}
 use Rattle.std.specs.Result as results
-use Rattle.std.specs.List.{AllByRecursion as All}
+use Rattle.std.specs.List.{AllByRecursion}
 use Rattle.std.proofs.lemmas.List.{length-map}
 use Rattle.std.proofs.lemmas.Option.{MatchOption-at_none}
 use Rattle.std.proofs.lemmas.Bool.Decides.{nat_tests}
@@ -27,18 +27,18 @@ value_small s l = grind (arith, nat_tests)
 mark_small : (s : ℕ) → mark_of s < 2
 mark_small s = grind (arith, nat_tests)
 
-values_small : (states : List ℕ) → All (λ s. s < 3) states → All (λ v. v < 2) (map value_of states)
+values_small : (states : List ℕ) → AllByRecursion (λ s. s < 3) states → AllByRecursion (λ v. v < 2) (map value_of states)
 values_small [] a = tt
 values_small (s ∷ states) a = (value_small s a.0, values_small states a.1)
 
-marks_small : (states : List ℕ) → All (λ v. v < 2) (map mark_of states)
+marks_small : (states : List ℕ) → AllByRecursion (λ v. v < 2) (map mark_of states)
 marks_small [] = tt
 marks_small (s ∷ states) = (mark_small s, marks_small states)
 
 module _ (m m' : MediumModel) (c : CodeModel) (lm : LawfulMedium m) (lc : Lawful c) (j : Joins m c) (p : ℕ) (within : p < m.pages) where
   pub fetches_page : (word marks word' marks' : List ℕ) (r : Result (Unit {0}) Fault) → word ≡ replicate c.len 0 → marks ≡ replicate c.len 0 → Fetched m m' p word marks word' marks' r → Unchanged m m' × ((r ≡ Ok tt) × (word' ≡ word_of m p) × (marks' ≡ calls.marks_of m p))
   fetches_page word marks word' marks' r ew em w =
-      let Clear : List ℕ → Type 0 = λ xs. (length xs ≡ m.breadth) × All (λ b. b < 256) xs in
+      let Clear : List ℕ → Type 0 = λ xs. (length xs ≡ m.breadth) × AllByRecursion (λ b. b < 256) xs in
       let clear : Clear (replicate c.len 0) = ((fresh c.len).0 ∙ j.same_length, (fresh c.len).1) in
       let word-clear = subst Clear (sym ew) clear in
       let marks-clear = subst Clear (sym em) clear in
@@ -49,7 +49,7 @@ module _ (m m' : MediumModel) (c : CodeModel) (lm : LawfulMedium m) (lc : Lawful
   corrects word marks word' r ew em w =
       let page = lm.states p within in
       let long = page.0 ∙ sym j.same_length in
-      let symbols = subst (λ (x : ℕ). All (λ v. v < 2 ^ x) (word_of m p)) (sym j.bits) (values_small (m.page p) page.1) in
+      let symbols = subst (λ (x : ℕ). AllByRecursion (λ v. v < 2 ^ x) (word_of m p)) (sym j.bits) (values_small (m.page p) page.1) in
       let none = none_from_fits Code (symbols_of c c.len (word_of m p) ∷ marks_of c.len (calls.marks_of m p) ∷ []) ((length-map (m.page p) value_of ∙ long, symbols), ((length-map (m.page p) mark_of ∙ long, marks_small (m.page p)), tt)) in
       let told = MatchOption-at_none _ _ none (subst₂ (λ (xs ys : List ℕ). Corrected c xs ys word' r) ew em w) in
       by r told

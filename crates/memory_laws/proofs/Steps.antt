@@ -1,7 +1,7 @@
 -- What one step of a life leaves. Assumes nothing.
 use Rattle.std.proofs.Common.{◌≡◌, ℕ, zero, suc, ◌^◌, ◌<◌, ◌≤◌, Bool, true, false, cond, eqb, List, [], ◌∷◌, length, get_or, set, sym, refl, ◌∙◌, subst, le_of_suc-le-suc, not-suc-le-zero, arith}
 use native.Mathlib.Decide.{ℕ_discrete}
-use Rattle.std.specs.List.{AllByRecursion as All}
+use Rattle.std.specs.List.{AllByRecursion}
 use Rattle.std.proofs.ByRecursion.{All-set}
 use Rattle.std.proofs.lemmas.List.{length-set}
 use Rattle.codes.specs.Model.{CodeModel, Lawful, Message}
@@ -17,7 +17,7 @@ pub record Follows (m m' : MediumModel) : Type 0 where
   pub pages : m'.pages ≡ m.pages
   pub breadth : m'.breadth ≡ m.breadth
 
-follows : (m m' : MediumModel) → LawfulMedium m → m'.pages ≡ m.pages → m'.breadth ≡ m.breadth → ((q : ℕ) → q < m.pages → (length (m'.page q) ≡ m.breadth) × All (λ s. s < 3) (m'.page q)) → Follows m m'
+follows : (m m' : MediumModel) → LawfulMedium m → m'.pages ≡ m.pages → m'.breadth ≡ m.breadth → ((q : ℕ) → q < m.pages → (length (m'.page q) ≡ m.breadth) × AllByRecursion (λ s. s < 3) (m'.page q)) → Follows m m'
 follows m m' h ep eb states =
     record {
       lawful = record {
@@ -33,16 +33,16 @@ follows m m' h ep eb states =
 
 pub unchanged_follows : (m m' : MediumModel) → LawfulMedium m → Unchanged m m' → Follows m m'
 unchanged_follows m m' h u =
-    follows m m' h u.pages u.breadth (λ q l. subst (λ (xs : List ℕ). (length xs ≡ m.breadth) × All (λ s. s < 3) xs) (sym (u.states q l)) (h.states q l))
+    follows m m' h u.pages u.breadth (λ q l. subst (λ (xs : List ℕ). (length xs ≡ m.breadth) × AllByRecursion (λ s. s < 3) xs) (sym (u.states q l)) (h.states q l))
 
-pub changed_follows : (m m' : MediumModel) (p : ℕ) (states : List ℕ) → LawfulMedium m → Changed m m' p states → length states ≡ m.breadth → All (λ s. s < 3) states → Follows m m'
+pub changed_follows : (m m' : MediumModel) (p : ℕ) (states : List ℕ) → LawfulMedium m → Changed m m' p states → length states ≡ m.breadth → AllByRecursion (λ s. s < 3) states → Follows m m'
 changed_follows m m' p states h u long small = follows m m' h u.pages u.breadth (λ q l. by q l (ℕ_discrete q p))
   where
-    by : (q : ℕ) → q < m.pages → Dec (q ≡ p) → (length (m'.page q) ≡ m.breadth) × All (λ s. s < 3) (m'.page q)
-    by q l (yes e) = subst (λ (k : ℕ). (length (m'.page k) ≡ m.breadth) × All (λ s. s < 3) (m'.page k)) (sym e) (subst (λ (xs : List ℕ). (length xs ≡ m.breadth) × All (λ s. s < 3) xs) (sym u.here) (long, small))
-    by q l (no ne) = subst (λ (xs : List ℕ). (length xs ≡ m.breadth) × All (λ s. s < 3) xs) (sym (u.elsewhere q l ne)) (h.states q l)
+    by : (q : ℕ) → q < m.pages → Dec (q ≡ p) → (length (m'.page q) ≡ m.breadth) × AllByRecursion (λ s. s < 3) (m'.page q)
+    by q l (yes e) = subst (λ (k : ℕ). (length (m'.page k) ≡ m.breadth) × AllByRecursion (λ s. s < 3) (m'.page k)) (sym e) (subst (λ (xs : List ℕ). (length xs ≡ m.breadth) × AllByRecursion (λ s. s < 3) xs) (sym u.here) (long, small))
+    by q l (no ne) = subst (λ (xs : List ℕ). (length xs ≡ m.breadth) × AllByRecursion (λ s. s < 3) xs) (sym (u.elsewhere q l ne)) (h.states q l)
 
-stored_small : (states cells : List ℕ) → All (λ s. s < 3) states → All (λ v. v < 2) cells → All (λ s. s < 3) (stored states cells)
+stored_small : (states cells : List ℕ) → AllByRecursion (λ s. s < 3) states → AllByRecursion (λ v. v < 2) cells → AllByRecursion (λ s. s < 3) (stored states cells)
 stored_small [] cells a b = tt
 stored_small (s ∷ states) [] a b = a
 stored_small (s ∷ states) (v ∷ cells) a b =
@@ -63,7 +63,7 @@ stored_matches (s ∷ states) (v ∷ cells) (suc i) l e ne = stored_matches stat
 pub put_follows : (m m' : MediumModel) (c : CodeModel) (p : ℕ) (u : List ℕ) → LawfulMedium m → Lawful c → Joins m c → p < m.pages → Message c u → Changed m m' p (stored (m.page p) (c.codeword u)) → Follows m m'
 put_follows m m' c p u h lc j l mu changed =
     let page = h.states p l in
-    let bits = subst (λ (w : ℕ). All (λ v. v < 2 ^ w) (c.codeword u)) j.bits (lc.symbols u mu).1 in
+    let bits = subst (λ (w : ℕ). AllByRecursion (λ v. v < 2 ^ w) (c.codeword u)) j.bits (lc.symbols u mu).1 in
     changed_follows m m' p (stored (m.page p) (c.codeword u)) h changed (length_stored (m.page p) (c.codeword u) ∙ page.0) (stored_small (m.page p) (c.codeword u) page.1 bits)
 
 pub wear_follows : (m m' : MediumModel) (p i s : ℕ) → LawfulMedium m → p < m.pages → s ≤ 2 → Changed m m' p (set (m.page p) i s) → Follows m m'
@@ -75,4 +75,4 @@ wear_follows m m' p i s h l small changed =
 pub carrying_message : (c : CodeModel) (payload : List ℕ) → c.width ≡ 1 → length payload ≡ page_bytes c.message_len → Message c (carrying c.message_len payload)
 carrying_message c payload bits long =
     let k = c.message_len in
-    (length_carrying k payload (omega (arith, long)), subst (λ (w : ℕ). All (λ x. x < 2 ^ w) (carrying k payload)) (sym bits) (carrying_small k payload))
+    (length_carrying k payload (omega (arith, long)), subst (λ (w : ℕ). AllByRecursion (λ x. x < 2 ^ w) (carrying k payload)) (sym bits) (carrying_small k payload))

@@ -1,6 +1,6 @@
 -- Lives of a memory: any list of writes, reads, patrols and wear, accepted or refused. Assumes nothing.
 use Rattle.std.specs.Prelude.{◌≡◌, ℕ, ◌<◌, true, ◌&&◌, List, length, is_ok, Ok, MatchBool, Result, ◌==◌, ◌≢◌, slice_index, slice_index_or}
-use Rattle.std.specs.List.{AllByRecursion as All}
+use Rattle.std.specs.List.{AllByRecursion}
 use Rattle.words.specs.declared.fault.Fault.{Fault}
 use Rattle.codes.specs.Model.{CodeModel, Lawful}
 use Rattle.media_laws.specs.Model.{MediumModel, LawfulMedium}
@@ -51,7 +51,7 @@ pub record Standing (c : CodeModel) (m : MediumModel) (p : ℕ) (payload : List 
   -- its readable unworn cells match the recording
   pub matches : (i : ℕ) → i < m.breadth → (WornCell i → ⊥) → (slice_index_or (m.page p) i 2 ≢ 2) → slice_index_or (m.page p) i 2 ≡ slice_index (recording c payload) i
   -- while the harm is below the reach, a read gives the payload and that harm
-  pub reads_back : page_harm m p (recording c payload) < c.distance → (m' : MediumModel) (buffer buffer' : List ℕ) (r : Result ℕ Fault) → length buffer ≡ page_bytes c.message_len → All (λ b. b < 256) buffer → Recalled m m' c p buffer buffer' r → (r ≡ Ok (page_harm m p (recording c payload))) × (buffer' ≡ payload)
+  pub reads_back : page_harm m p (recording c payload) < c.distance → (m' : MediumModel) (buffer buffer' : List ℕ) (r : Result ℕ Fault) → length buffer ≡ page_bytes c.message_len → AllByRecursion (λ b. b < 256) buffer → Recalled m m' c p buffer buffer' r → (r ≡ Ok (page_harm m p (recording c payload))) × (buffer' ≡ payload)
   -- and a patrol is accepted
   pub patrol_accepted : page_harm m p (recording c payload) < c.distance → (m' : MediumModel) (r : Result ℕ Fault) → Patrolled m m' c p r → is_ok r ≡ true
 
@@ -60,4 +60,4 @@ abbrev pub ComesBack : CodeModel → Type 0
 ComesBack c =
     Lawful c → (m m' : MediumModel) → LawfulMedium m → Joins m c → (life : Life c m m') (p : ℕ) → p < m.pages
     → ((payload : List ℕ) → LastWrite c p payload life → PatrolsNear c p payload life → Standing c m' p payload (λ i. WornSince c p i life))
-    × ((m'' : MediumModel) (payload : List ℕ) (r : Result ℕ Fault) → length payload ≡ page_bytes c.message_len → All (λ b. b < 256) payload → Written m' m'' c p payload r → is_ok r ≡ true)
+    × ((m'' : MediumModel) (payload : List ℕ) (r : Result ℕ Fault) → length payload ≡ page_bytes c.message_len → AllByRecursion (λ b. b < 256) payload → Written m' m'' c p payload r → is_ok r ≡ true)

@@ -1,6 +1,6 @@
 -- A page's bytes as the bits of a message. Assumes nothing.
 use Rattle.std.specs.Prelude.{◌≡◌, ℕ, zero, suc, ◌+◌, ◌-◌, ◌*◌, ◌/◌, ◌%◌, List, [], ◌∷◌, ◌++◌, length, drop, replicate, slice_index}
-use Rattle.std.specs.List.{AllByRecursion as All}
+use Rattle.std.specs.List.{AllByRecursion}
 
 -- the bits of a byte, most significant first
 abbrev pub bits_of_byte : ℕ → List ℕ
@@ -30,4 +30,4 @@ page_bytes k = k / 8
 
 -- no spare bit of a message is set
 abbrev pub SpareClear : ℕ → List ℕ → Type 0
-SpareClear k u = All (λ b. b ≡ 0) (drop (8 * page_bytes k) u)
+SpareClear k u = AllByRecursion (λ b. b ≡ 0) (drop (8 * page_bytes k) u)

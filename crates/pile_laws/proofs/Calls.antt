@@ -1,6 +1,6 @@
 -- What the calls of a sound code or chain answer where nothing is refused. Assumes nothing.
 use Rattle.std.proofs.Common.{◌≡◌, ℕ, suc, ◌+◌, ◌-◌, ◌^◌, ◌<◌, ◌≤◌, min, ◌&&◌, ltb, leb, List, [], ◌∷◌, length, Some, None, Ok, Err, Option, Result, refl, ap, ◌∙◌, subst, arith, pow_mono, MatchResult}
-use Rattle.std.specs.List.{AllByRecursion as All}
+use Rattle.std.specs.List.{AllByRecursion}
 use Rattle.std.proofs.ByRecursion.{All-weaker}
 use Rattle.std.proofs.lemmas.Bool.{and_from, cond-true, le-leb, lt-ltb}
 use Rattle.words.specs.declared.fault.Fault.{Fault}
@@ -30,13 +30,13 @@ stage_number S h number i x s st of =
     none_due = None
 
 -- encode writes the codeword
-pub encoded_answer : (c : CodeModel) (message word word' : List ℕ) (r : Result (Unit {0}) Fault) → Message c message → length word ≡ c.len → All (λ x. x < 256) word → Encoded c message word word' r → (r ≡ Ok tt) × (word' ≡ c.codeword message)
+pub encoded_answer : (c : CodeModel) (message word word' : List ℕ) (r : Result (Unit {0}) Fault) → Message c message → length word ≡ c.len → AllByRecursion (λ x. x < 256) word → Encoded c message word word' r → (r ≡ Ok tt) × (word' ≡ c.codeword message)
 encoded_answer c message word word' r m l a e =
     let none : refusal Code (encode_buffers c (2 ^ c.width) message word) ≡ None = none_from_fits Code (encode_buffers c (2 ^ c.width) message word) (m, ((l, a), tt)) in
     rw none at e
 
 -- message-of writes the message of a codeword
-pub recovered_answer : (c : CodeModel) (word message message' : List ℕ) (r : Result (Unit {0}) Fault) (u : List ℕ) → Symbols c.width c.len word → length message ≡ c.message_len → All (λ x. x < 256) message → Message c u → c.codeword u ≡ word → Recovered c word message message' r → (r ≡ Ok tt) × Message c message' × (c.codeword message' ≡ word)
+pub recovered_answer : (c : CodeModel) (word message message' : List ℕ) (r : Result (Unit {0}) Fault) (u : List ℕ) → Symbols c.width c.len word → length message ≡ c.message_len → AllByRecursion (λ x. x < 256) message → Message c u → c.codeword u ≡ word → Recovered c word message message' r → (r ≡ Ok tt) × Message c message' × (c.codeword message' ≡ word)
 recovered_answer c word message message' r u s l a mu is e =
     let none : refusal Code (message_of_buffers c (2 ^ c.width) message word) ≡ None = none_from_fits Code (message_of_buffers c (2 ^ c.width) message word) ((l, a), (s, tt)) in
     by r (rw none at e)
@@ -46,7 +46,7 @@ recovered_answer c word message message' r u s l a mu is e =
     by (Err f) refused = absurd (refused.2 u mu is)
 
 -- labels of a chain are bytes
-labels_bytes : (width : ℕ → ℕ) (i : ℕ) (us : List ℕ) → ((k : ℕ) → i ≤ k → k < i + length us → width k ≤ 8) → LabelsFrom width i us → All (λ x. x < 256) us
+labels_bytes : (width : ℕ → ℕ) (i : ℕ) (us : List ℕ) → ((k : ℕ) → i ≤ k → k < i + length us → width k ≤ 8) → LabelsFrom width i us → AllByRecursion (λ x. x < 256) us
 labels_bytes width i [] narrow f = tt
 labels_bytes width i (x ∷ us) narrow f =
     (omega (arith, f.0, pow_mono {i = width i} {j = 8} (narrow i (omega arith) (omega arith))), labels_bytes width (suc i) us (λ k low high. narrow k (omega arith) (omega arith)) f.1)
@@ -64,7 +64,7 @@ module _ (h : ChainModel) (law : LawfulChain h) where
   narrow_before us few k low high = law.few_width k (low, omega arith)
 
   -- word-of fills the cells with the word of a row
-  pub worded_answer : (S : Type 0) (labels cells after : List ℕ) (r : Result (Unit {0}) Fault) → S → Row h labels → length cells ≡ h.breadth → All (λ x. x < 256) cells → Worded S h labels cells r after → (r ≡ Ok tt) × (after ≡ h.word labels)
+  pub worded_answer : (S : Type 0) (labels cells after : List ℕ) (r : Result (Unit {0}) Fault) → S → Row h labels → length cells ≡ h.breadth → AllByRecursion (λ x. x < 256) cells → Worded S h labels cells r after → (r ≡ Ok tt) × (after ≡ h.word labels)
   worded_answer S labels cells after r s row lc ac w =
       let sizes : refusal Chain (sized h.stages labels ∷ sized h.breadth cells ∷ []) ≡ None = none_from_fits Chain (sized h.stages labels ∷ sized h.breadth cells ∷ []) ((row.0, labels_bytes h.width 1 labels (narrow_before labels (omega (arith, row.0))) row.1), ((lc, ac), tt)) in
       let none : word_refusal h.breadth h.stages h.width labels cells ≡ None = both_none (refusal Chain (sized h.stages labels ∷ sized h.breadth cells ∷ [])) (large_label h.width 0 labels) sizes (none_large h.width 0 labels row.1) in
@@ -74,7 +74,7 @@ module _ (h : ChainModel) (law : LawfulChain h) where
   -- estimate answers what its meaning gives
   pub estimated_answer : (S : Type 0) (i : ℕ) (labels cells marks : List ℕ) (r : Result (Option Estimate) Fault) → S → Stage h i → length labels ≡ i - 1 → LabelsFrom h.width 1 labels → Cells h.breadth cells → Cells h.breadth marks → Estimated S h i labels cells marks r → MatchResult r (Estimates h i labels cells marks) (λ _. ⊥)
   estimated_answer S i labels cells marks r s st ll fl fc fm e =
-      let byte : (xs : List ℕ) → All (λ x. x < 2) xs → All (λ x. x < 256) xs = λ xs a. All-weaker (λ x. x < 2) (λ x. x < 256) (λ x l. omega arith) xs a in
+      let byte : (xs : List ℕ) → AllByRecursion (λ x. x < 2) xs → AllByRecursion (λ x. x < 256) xs = λ xs a. All-weaker (λ x. x < 2) (λ x. x < 256) (λ x l. omega arith) xs a in
       let stage : stage_refusal h.stages i ≡ None = cond-true (leb 1 i && leb i h.stages) _ _ (and_from _ _ (le-leb 1 i st.0) (le-leb i h.stages st.1)) in
       let row = sized (i - 1) labels ∷ sized h.breadth cells ∷ sized h.breadth marks ∷ [] in
       let sizes : refusal Chain row ≡ None = none_from_fits Chain row ((ll, labels_bytes h.width 1 labels (narrow_before labels (omega (arith, ll, st.1))) fl), ((fc.0, byte cells fc.1), ((fm.0, byte marks fm.1), tt))) in
@@ -85,7 +85,7 @@ module _ (h : ChainModel) (law : LawfulChain h) where
       subst (λ (due : Option Fault). Answered due (Estimates h i labels cells marks) r) none (e.0 s)
 
 -- harm is measured on words of one length and marks of 0 and 1
-pub harm_answer : (layer : Layer) (word marks v : List ℕ) → length word ≤ 4096 → length marks ≡ length word → length v ≡ length word → All (λ m. m < 2) marks → All (λ x. x < 256) word → All (λ x. x < 256) v → answered (refusal layer (harm_buffers word marks v)) (harm word marks v) ≡ Ok (harm word marks v)
+pub harm_answer : (layer : Layer) (word marks v : List ℕ) → length word ≤ 4096 → length marks ≡ length word → length v ≡ length word → AllByRecursion (λ m. m < 2) marks → AllByRecursion (λ x. x < 256) word → AllByRecursion (λ x. x < 256) v → answered (refusal layer (harm_buffers word marks v)) (harm word marks v) ≡ Ok (harm word marks v)
 harm_answer layer word marks v short lm lv small bw bv =
     let places : length word ≡ min (length word) 4096 = omega arith in
     ap (λ due. answered due (harm word marks v)) (none_from_fits layer (harm_buffers word marks v) ((places, bw), ((lm ∙ places, small), ((lv ∙ places, bv), tt))))

@@ -1,7 +1,7 @@
 -- One stage after the other: what the estimates give the stage rule, and what its choice adds. Assumes nothing.
 use Rattle.std.proofs.Common.{◌≡◌, ℕ, zero, suc, ◌+◌, ◌-◌, ◌^◌, ◌<◌, ◌≤◌, true, eqb, List, [], ◌∷◌, ◌++◌, length, get_or, take, set, Some, None, Err, Option, Result, sym, refl, ap, ◌∙◌, subst, ⊎_elim, arith, MatchResult}
 use Rattle.std.specs.Option as options
-use Rattle.std.specs.List.{AllByRecursion as All}
+use Rattle.std.specs.List.{AllByRecursion}
 use Rattle.std.proofs.ByRecursion.{All-from_get_or}
 use Rattle.std.proofs.lemmas.List.{get_or_append_left, get_or_at, get_or-set_other, get_or-set_same, length_push, take-append-le, take_at}
 use Rattle.std.proofs.lemmas.Bool.{and_from, cases_eq, cases_lt, cond-true, eq-eqb, lt-ltb}
@@ -54,7 +54,7 @@ estimate_fits h k symbols labels cells marks (Some e) l is est =
     let small = label_small h.width 1 k est.0 (omega (arith, row.0)) row.1 in
     and_from _ _ (lt-ltb e.label symbols (omega (arith, est.2, ap (λ (n : ℕ). get_or est.0 n 0) at, small, ap (λ (n : ℕ). 2 ^ h.width n) here, is))) (lt-ltb e.harm (h.distance (suc k)) est.4)
 
-none_large : (symbols d j : ℕ) (es : List (Option Estimate)) → All (λ e. fits_column symbols d e ≡ true) es → first_large symbols d j es ≡ None
+none_large : (symbols d j : ℕ) (es : List (Option Estimate)) → AllByRecursion (λ e. fits_column symbols d e ≡ true) es → first_large symbols d j es ≡ None
 none_large symbols d j [] a = refl
 none_large symbols d j (e ∷ es) a = cond-true (fits_column symbols d e) _ _ a.0 ∙ none_large symbols d (suc j) es a.1
 
@@ -75,7 +75,7 @@ module _ (h : ChainModel) (cs : List CodeModel) (fits : Fits h cs) (word marks :
       let i = suc (length chosen) in
       let long : c.len ≡ columns cs = ap (λ (x : CodeModel). x.len) is ∙ f.2 in
       let wide : 2 ^ c.width ≡ 2 ^ h.width i = ap (λ (x : CodeModel). 2 ^ x.width) is ∙ ap (λ (n : ℕ). 2 ^ n) f.1 in
-      let each : All (λ e. fits_column (2 ^ c.width) (h.distance i) e ≡ true) es = All-from_get_or (λ e. fits_column (2 ^ c.width) (h.distance i) e ≡ true) es None (λ j l. estimate_fits h (length chosen) (2 ^ c.width) (labels_at chosen j) (column h.breadth j word) (column h.breadth j marks) (get_or es j None) f.0 wide (est.1 j (omega (arith, est.0)))) in
+      let each : AllByRecursion (λ e. fits_column (2 ^ c.width) (h.distance i) e ≡ true) es = All-from_get_or (λ e. fits_column (2 ^ c.width) (h.distance i) e ≡ true) es None (λ j l. estimate_fits h (length chosen) (2 ^ c.width) (labels_at chosen j) (column h.breadth j word) (column h.breadth j marks) (get_or es j None) f.0 wide (est.1 j (omega (arith, est.0)))) in
       let none : choose_refusal c (h.distance i) es part ≡ None = both_none (length_refusal c.len (length es)) _ (same_length c.len (length es) (est.0 ∙ sym long)) (both_none (length_refusal c.len (length part)) _ (same_length c.len (length part) (lp ∙ sym long)) (none_large (2 ^ c.width) (h.distance i) 0 es each)) in
       let there : Chose c (h.distance i) es part part' r = subst (λ (x : ℕ). Chose c x es part part' r) distance chose in
       let answer : MatchResult r (Choice c (h.distance i) es part part') (λ _. ⊥) = subst (λ (due : Option Fault). options.MatchOption due (MatchResult r (Choice c (h.distance i) es part part') (λ _. ⊥)) (λ g. (r ≡ Err g) × (part' ≡ part))) none there in

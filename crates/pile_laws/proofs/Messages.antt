@@ -1,6 +1,6 @@
 -- A pile's message and those of its stages. Assumes nothing.
 use Rattle.std.proofs.Common.{◌≡◌, ℕ, zero, suc, ◌+◌, ◌-◌, ◌*◌, ◌^◌, ◌<◌, ◌≤◌, List, [], ◌∷◌, ◌++◌, length, get_or, take, drop, sym, refl, ap, ◌∙◌, subst, ap₂, mul-le-mul_right, mod-eq_of_lt, suc-mul, arith}
-use Rattle.std.specs.List.{AllByRecursion as All}
+use Rattle.std.specs.List.{AllByRecursion}
 use Rattle.std.proofs.ByRecursion.{All-append, All-take, All-drop}
 use Rattle.std.proofs.lemmas.List.{append_assoc, ext_get_or, length-append, length-drop, length-take-le, take-append-drop, drop-drop, drop-take, take_at, take-take, drop_at}
 use Rattle.chains.specs.Bits.{bits_of, spelled}
@@ -17,7 +17,7 @@ length_spelled_out m [] = omega arith
 length_spelled_out m (x ∷ us) =
     length-append (bits_of m x) (spelled_out m us) ∙ omega (arith, length_bits m x, length_spelled_out m us, suc-mul (length us) m)
 
-pub small_spelled_out : (m : ℕ) (us : List ℕ) → All (λ b. b < 2) (spelled_out m us)
+pub small_spelled_out : (m : ℕ) (us : List ℕ) → AllByRecursion (λ b. b < 2) (spelled_out m us)
 small_spelled_out m [] = tt
 small_spelled_out m (x ∷ us) = All-append (λ b. b < 2) (bits_of m x) (spelled_out m us) (bits_small m x) (small_spelled_out m us)
 
@@ -45,7 +45,7 @@ module _ (m : ℕ) where
       ap₂ (λ x y. spelled x ∷ symbols m k y) (take-take m n bits (omega arith)) rest
       ∙ ap (λ xs. spelled (take m bits) ∷ xs) (symbols_front k (n - m) (drop m bits) (omega arith))
 
-  pub small_symbols : (k : ℕ) (bits : List ℕ) → k * m ≤ length bits → All (λ b. b < 2) bits → All (λ x. x < 2 ^ m) (symbols m k bits)
+  pub small_symbols : (k : ℕ) (bits : List ℕ) → k * m ≤ length bits → AllByRecursion (λ b. b < 2) bits → AllByRecursion (λ x. x < 2 ^ m) (symbols m k bits)
   small_symbols zero bits l a = tt
   small_symbols (suc k) bits l a =
       let room : m + k * m ≤ length bits = omega (arith, suc-mul k m) in
@@ -53,7 +53,7 @@ module _ (m : ℕ) where
       (subst (λ (n : ℕ). spelled (take m bits) < 2 ^ n) long (spelled_small (take m bits) (All-take (λ b. b < 2) m bits a)), small_symbols k (drop m bits) (omega (arith, length-drop m bits)) (All-drop (λ b. b < 2) m bits a))
 
   -- bits are those of the symbols that they spell
-  pub spelled_symbols : (k : ℕ) (bits : List ℕ) → k * m ≤ length bits → All (λ b. b < 2) bits → spelled_out m (symbols m k bits) ++ drop (k * m) bits ≡ bits
+  pub spelled_symbols : (k : ℕ) (bits : List ℕ) → k * m ≤ length bits → AllByRecursion (λ b. b < 2) bits → spelled_out m (symbols m k bits) ++ drop (k * m) bits ≡ bits
   spelled_symbols zero bits l a = let none : 0 * m ≡ 0 = omega arith in ap (λ (n : ℕ). drop n bits) none
   spelled_symbols (suc k) bits l a =
       let room : m + k * m ≤ length bits = omega (arith, suc-mul k m) in
@@ -68,7 +68,7 @@ module _ (m : ℕ) where
       ∙ take-append-drop m bits
 
   -- and symbols are those that their bits spell
-  pub symbols_spelled : (us rest : List ℕ) → All (λ x. x < 2 ^ m) us → symbols m (length us) (spelled_out m us ++ rest) ≡ us
+  pub symbols_spelled : (us rest : List ℕ) → AllByRecursion (λ x. x < 2 ^ m) us → symbols m (length us) (spelled_out m us ++ rest) ≡ us
   symbols_spelled [] rest a = refl
   symbols_spelled (x ∷ us) rest a =
       let apart = append_assoc (bits_of m x) (spelled_out m us) rest in
@@ -85,12 +85,12 @@ EachMessage [] (u ∷ us) = ⊥
 EachMessage (c ∷ cs) [] = ⊥
 EachMessage (c ∷ cs) (u ∷ us) = Message c u × EachMessage cs us
 
-pub stage_messages_are : (cs : List CodeModel) (bits : List ℕ) → total_bits cs ≤ length bits → All (λ b. b < 2) bits → EachMessage cs (stage_messages cs bits)
+pub stage_messages_are : (cs : List CodeModel) (bits : List ℕ) → total_bits cs ≤ length bits → AllByRecursion (λ b. b < 2) bits → EachMessage cs (stage_messages cs bits)
 stage_messages_are [] bits l a = tt
 stage_messages_are (c ∷ cs) bits l a =
     ((length_symbols c.width c.message_len bits, small_symbols c.width c.message_len bits (omega arith) a), stage_messages_are cs (drop (stage_bits c) bits) (omega (arith, length-drop (stage_bits c) bits)) (All-drop (λ b. b < 2) (stage_bits c) bits a))
 
-pub bits_again : (cs : List CodeModel) (bits : List ℕ) → length bits ≡ total_bits cs → All (λ b. b < 2) bits → joined_bits cs (stage_messages cs bits) ≡ bits
+pub bits_again : (cs : List CodeModel) (bits : List ℕ) → length bits ≡ total_bits cs → AllByRecursion (λ b. b < 2) bits → joined_bits cs (stage_messages cs bits) ≡ bits
 bits_again [] [] l a = refl
 bits_again [] (b ∷ bits) l a = absurd (omega arith)
 bits_again (c ∷ cs) bits l a =
@@ -98,7 +98,7 @@ bits_again (c ∷ cs) bits l a =
     ap (λ x. spelled_out c.width (symbols c.width c.message_len bits) ++ x) rest
     ∙ spelled_symbols c.width c.message_len bits (omega arith) a
 
-pub joined_bits_are : (cs : List CodeModel) (us : List (List ℕ)) → EachMessage cs us → (length (joined_bits cs us) ≡ total_bits cs) × All (λ b. b < 2) (joined_bits cs us)
+pub joined_bits_are : (cs : List CodeModel) (us : List (List ℕ)) → EachMessage cs us → (length (joined_bits cs us) ≡ total_bits cs) × AllByRecursion (λ b. b < 2) (joined_bits cs us)
 joined_bits_are [] [] e = (refl, tt)
 joined_bits_are [] (u ∷ us) e = absurd e
 joined_bits_are (c ∷ cs) [] e = absurd e

@@ -2,7 +2,7 @@
 use Rattle.std.proofs.Common.{◌≡◌, ℕ, zero, suc, ◌+◌, ◌-◌, ◌*◌, ◌<◌, ◌≤◌, Bool, true, false, cond, eqb, List, [], length, get_or, take, Some, None, Option, sym, refl, ap, ◌∙◌, subst, arith}
 use mathlib.Core.List.{List-discrete}
 use native.Mathlib.Decide.{ℕ_discrete}
-use Rattle.std.specs.List.{AllByRecursion as All}
+use Rattle.std.specs.List.{AllByRecursion}
 use Rattle.std.proofs.ByRecursion.{All-from_get_or}
 use Rattle.std.proofs.lemmas.List.{length-take-le, take_all, take_more_same}
 use Rattle.std.proofs.lemmas.Bool.{eq-eqb}
@@ -65,7 +65,7 @@ module _ (h : ChainModel) (law : LawfulChain h) (cs : List CodeModel) (laws : Ea
     pub reach_here : reach h cs ≤ h.distance (suc (length chosen)) * (code_at cs (suc (length chosen))).distance
     reach_here = subst (λ (c : CodeModel). reach h cs ≤ h.distance (suc (length chosen)) * c.distance) (sym (code_after cs (length chosen))) (reach_each h (length chosen) cs few)
 
-    pub estimates_within : (es : List (Option Estimate)) → ColumnEstimates h cs word marks chosen es → All (Within (h.distance (suc (length chosen)))) es
+    pub estimates_within : (es : List (Option Estimate)) → ColumnEstimates h cs word marks chosen es → AllByRecursion (Within (h.distance (suc (length chosen)))) es
     estimates_within es est = All-from_get_or (Within (h.distance (suc (length chosen)))) es None (λ j l. estimate_within h _ _ (column h.breadth j word) (column h.breadth j marks) (get_or es j None) (est.1 j (omega (arith, est.0))))
 
     pub one_here : (es : List (Option Estimate)) → ColumnEstimates h cs word marks chosen es → OneChoice (code_at cs (suc (length chosen))) (h.distance (suc (length chosen))) es

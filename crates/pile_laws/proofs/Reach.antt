@@ -1,7 +1,7 @@
 -- The reach is the least of the stages' inner times outer distances. Assumes nothing.
 use Rattle.std.proofs.Common.{◌≡◌, ℕ, zero, suc, ◌+◌, ◌*◌, ◌<◌, ◌≤◌, min, List, [], ◌∷◌, length, get_or, refl, ap, ◌∙◌, arith}
 use native.Mathlib.Nat.{one-le-mul}
-use Rattle.std.specs.List.{AllByRecursion as All}
+use Rattle.std.specs.List.{AllByRecursion}
 use Rattle.chains.specs.Model.{ChainModel, LawfulChain}
 use Rattle.codes.specs.Model.{CodeModel}
 use Rattle.pile_laws.specs.Build.{least, reach, smallest, stage_reaches}
@@ -23,11 +23,11 @@ smallest_each [] k l = absurd (omega arith)
 smallest_each (x ∷ xs) zero l = least_le x xs
 smallest_each (x ∷ xs) (suc k) l = least_each x xs k (omega arith)
 
-least_above : (b m : ℕ) (xs : List ℕ) → b ≤ m → All (λ x. b ≤ x) xs → b ≤ least m xs
+least_above : (b m : ℕ) (xs : List ℕ) → b ≤ m → AllByRecursion (λ x. b ≤ x) xs → b ≤ least m xs
 least_above b m [] h a = h
 least_above b m (x ∷ xs) h a = least_above b (min m x) xs (omega (arith, a.0)) a.1
 
-smallest_above : (b : ℕ) (xs : List ℕ) → 0 < length xs → All (λ x. b ≤ x) xs → b ≤ smallest xs
+smallest_above : (b : ℕ) (xs : List ℕ) → 0 < length xs → AllByRecursion (λ x. b ≤ x) xs → b ≤ smallest xs
 smallest_above b [] l a = absurd (omega arith)
 smallest_above b (x ∷ xs) l a = least_above b x xs a.0 a.1
 
@@ -48,7 +48,7 @@ module _ (h : ChainModel) where
       let here : 1 + k ≡ suc k = omega arith in
       omega (arith, smallest_each (stage_reaches h 1 cs) k (omega (arith, length_reaches 1 cs)), reaches_at 1 k cs l, ap (λ (n : ℕ). h.distance n * (get_or cs k no_code).distance) here)
 
-  some_reaches : (law : LawfulChain h) (n i : ℕ) (cs : List CodeModel) → 1 ≤ i → Fitting h n i cs → EachLawful cs → All (λ x. 1 ≤ x) (stage_reaches h i cs)
+  some_reaches : (law : LawfulChain h) (n i : ℕ) (cs : List CodeModel) → 1 ≤ i → Fitting h n i cs → EachLawful cs → AllByRecursion (λ x. 1 ≤ x) (stage_reaches h i cs)
   some_reaches law n i [] low fit laws = tt
   some_reaches law n i (c ∷ cs) low fit laws =
       (one-le-mul (law.some_distance i (low, fit.0)) laws.0.some_distance, some_reaches law n (suc i) cs (omega arith) fit.3 laws.1)

@@ -1,7 +1,7 @@
 -- The messages of the stages' codewords and their bits, found one by one. Assumes nothing.
 use Rattle.std.proofs.Common.{◌≡◌, ℕ, suc, ◌+◌, ◌*◌, ◌<◌, ◌≤◌, List, [], ◌∷◌, ◌++◌, map, length, get_or, take, Ok, Result, sym, refl, ap, ◌∙◌, subst, ap₂, suc-mul, arith}
 use borrow.Rule.Slice.PartMut.{put_mid}
-use Rattle.std.specs.List.{AllByRecursion as All}
+use Rattle.std.specs.List.{AllByRecursion}
 use Rattle.words.specs.declared.fault.Fault.{Fault}
 use Rattle.std.proofs.lemmas.List.{append_assoc, append-nil, take_all, take_more}
 use Rattle.std.proofs.lemmas.Slice.{take-put_mid}
@@ -91,6 +91,6 @@ recovered_all model codes n k at row bits all past inv =
     (subst (λ (xs : List _). MessagesOf (map model xs) (words_in n k row) (take at bits)) whole inv))
 
 -- message-of finds the message of any codeword of a lawful code
-pub codeword_answer : (c : CodeModel) (word message message' : List ℕ) (r : Result (Unit {0}) Fault) → Lawful c → ((u : List ℕ) × Message c u × (c.codeword u ≡ word)) → length message ≡ c.message_len → All (λ x. x < 256) message → Recovered c word message message' r → (r ≡ Ok tt) × Message c message' × (c.codeword message' ≡ word)
+pub codeword_answer : (c : CodeModel) (word message message' : List ℕ) (r : Result (Unit {0}) Fault) → Lawful c → ((u : List ℕ) × Message c u × (c.codeword u ≡ word)) → length message ≡ c.message_len → AllByRecursion (λ x. x < 256) message → Recovered c word message message' r → (r ≡ Ok tt) × Message c message' × (c.codeword message' ≡ word)
 codeword_answer c word message message' r law of long bytes answer =
     recovered_answer c word message message' r of.0 (subst (Symbols c.width c.len) of.2 (law.symbols of.0 of.1)) long bytes of.1 of.2 answer

@@ -1,6 +1,6 @@
 -- The labels that the stages' codewords have in a column are a row of the chain. Assumes nothing.
 use Rattle.std.proofs.Common.{◌≡◌, ℕ, zero, suc, ◌+◌, ◌*◌, ◌^◌, ◌<◌, ◌≤◌, List, [], ◌∷◌, length, get_or, take, sym, refl, ap, ◌∙◌, subst, mul-suc, arith}
-use Rattle.std.specs.List.{AllByRecursion as All}
+use Rattle.std.specs.List.{AllByRecursion}
 use Rattle.std.proofs.ByRecursion.{All-append, All-get_or}
 use Rattle.std.proofs.lemmas.List.{get_or-map, length-append, length-map, take-map}
 use Rattle.chains.specs.Model.{ChainModel, LawfulChain, LabelsFrom, Row}
@@ -45,7 +45,7 @@ module _ (h : ChainModel) (n : ℕ) (cs : List CodeModel) (fit : Fitting h n 1 c
   row_at law all j l =
       (length-map words (λ w. get_or w j 0) ∙ all ∙ omega (arith, fitting_length h n 1 cs (omega arith) (omega arith) fit), labels_fit j l)
 
-  pub laid_cells : (law : LawfulChain h) → length words ≡ length cs → (k j : ℕ) → j + k ≤ n → (length (laid_from h words k j) ≡ h.breadth * k) × All (λ x. x < 2) (laid_from h words k j)
+  pub laid_cells : (law : LawfulChain h) → length words ≡ length cs → (k j : ℕ) → j + k ≤ n → (length (laid_from h words k j) ≡ h.breadth * k) × AllByRecursion (λ x. x < 2) (laid_from h words k j)
   laid_cells law all zero j l = (omega arith, tt)
   laid_cells law all (suc k) j l =
       let cells = law.words (labels_at words j) (row_at law all j (omega arith)) in

@@ -1,7 +1,7 @@
 -- Codes of one type, gone through one by one. Assumes nothing.
 use Rattle.std.proofs.Common.{◌≡◌, ℕ, zero, suc, ◌+◌, ◌*◌, ◌<◌, ◌≤◌, min, true, false, leb, List, [], ◌∷◌, ◌++◌, map, length, get_or, take, drop, Some, None, sym, refl, ap, ◌∙◌, subst, ap₂, add-one, arith}
 use borrow.Rule.Slice.PartMut.{put_mid}
-use Rattle.std.specs.List.{AllByRecursion as All}
+use Rattle.std.specs.List.{AllByRecursion}
 use Rattle.std.proofs.lemmas.List.{append_assoc, append-nil, drop_all, drop-drop, drop_more}
 use Rattle.std.proofs.lemmas.Bool.{cond-true, cond-false, le-leb, lt-leb}
 use Rattle.chains.specs.Model.{ChainModel}
@@ -105,7 +105,7 @@ words_all model codes n k message row at all past inv =
     sym (ap (λ cs. words_in n k row ++ stage_words (map model cs) (drop at message)) (drop_all k codes past) ∙ append-nil (words_in n k row)) ∙ inv
 
 -- parts that are sound are lawful
-pub each_lawful : {A : Type 0} (model : A → CodeModel) (sound : A → Type 0) (codes : List A) → ((a : A) → sound a → Lawful (model a)) → All sound codes → EachLawful (map model codes)
+pub each_lawful : {A : Type 0} (model : A → CodeModel) (sound : A → Type 0) (codes : List A) → ((a : A) → sound a → Lawful (model a)) → AllByRecursion sound codes → EachLawful (map model codes)
 each_lawful model sound [] law all = tt
 each_lawful model sound (a ∷ codes) law all = (law a all.0, each_lawful model sound codes law all.1)
 

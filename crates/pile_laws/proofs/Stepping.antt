@@ -1,7 +1,7 @@
 -- One stage's step over the row that holds the words chosen so far. Assumes nothing.
 use Rattle.std.proofs.Common.{◌≡◌, ℕ, suc, ◌+◌, ◌*◌, ◌<◌, ◌≤◌, List, [], ◌∷◌, ◌++◌, length, get_or, take, drop, Some, None, Ok, Err, Option, Result, sym, ap, ◌∙◌, subst, arith, MatchResult}
 use borrow.Rule.Slice.PartMut.{put_mid}
-use Rattle.std.specs.List.{AllByRecursion as All}
+use Rattle.std.specs.List.{AllByRecursion}
 use Rattle.std.proofs.lemmas.List.{length-drop, length-take-le}
 use Rattle.words.specs.declared.fault.Fault.{Fault}
 use Rattle.chains.specs.declared.chain.Estimate.{Estimate}
@@ -62,7 +62,7 @@ module _ (h : ChainModel) (cs : List CodeModel) (laws : EachLawful cs) (fits : F
       subst (Choices h cs word marks) (sym (words_in_more n k row' ∙ ap (λ ws. ws ++ (column n k row' ∷ [])) same)) (choices_more h cs word marks (words_in n k row) (column n k row') choices next)
 
   -- the word that all choices make
-  pub laid_chosen : (law : LawfulChain h) → k ≡ length cs → (length (laid h n (words_in n k row)) ≡ h.breadth * n) × All (λ x. x < 2) (laid h n (words_in n k row))
+  pub laid_chosen : (law : LawfulChain h) → k ≡ length cs → (length (laid h n (words_in n k row)) ≡ h.breadth * n) × AllByRecursion (λ x. x < 2) (laid h n (words_in n k row))
   laid_chosen law all =
       let many : length (words_in n k row) ≡ length cs = length_words_in n k row ∙ all in
       let less : length (words_in n k row) ≤ length cs = omega (arith, many) in

@@ -1,6 +1,6 @@
 -- Which parts make a sound pile, and which refusal other parts give. Assumes nothing.
 use Rattle.std.specs.Prelude.{◌≡◌, ℕ, ◌⊎◌, List, [], ◌∷◌, map, Some, Result, MatchResult}
-use Rattle.std.specs.List.{AllByRecursion as All}
+use Rattle.std.specs.List.{AllByRecursion}
 use Rattle.words.specs.declared.fault.Fault.{Fault}
 use Rattle.words.specs.declared.fault.Kind.TheVariants.{UnfitStages}
 use Rattle.words.specs.declared.fault.Layer.TheVariants.{Pile}
@@ -26,11 +26,11 @@ RefusesFit h cs f = (place : ℕ) × (unfit h cs ≡ Some place) × (f ≡ fault
 
 module _ (SoundChain : Type 0) (h : ChainModel) {A : Type 0} (model : A → CodeModel) (sound : A → Type 0) where
   abbrev pub SoundPile : List A → Type 0
-  SoundPile codes = SoundChain × All sound codes × Fits h (map model codes)
+  SoundPile codes = SoundChain × AllByRecursion sound codes × Fits h (map model codes)
 
   -- the refusal of a chain that is not sound comes first, then that of the first code that is not, then 15
   abbrev pub RefusesPile : (A → Fault → Type 0) → List A → Fault → Type 0
   RefusesPile refuses codes f =
       ((SoundChain → ⊥) × (f ≡ outside))
       ⊎ (SoundChain × FirstUnsound sound refuses codes f)
-      ⊎ (SoundChain × All sound codes × RefusesFit h (map model codes) f)
+      ⊎ (SoundChain × AllByRecursion sound codes × RefusesFit h (map model codes) f)

@@ -1,6 +1,6 @@
 // Whether the parts of a pile are sound and fit each other.
 ghost use Rattle.std.specs.Prelude.{◌≡◌, ◌≤◌, map, length, Some, MatchResult};
-ghost use Rattle.std.specs.List.{AllByRecursion as All};
+ghost use Rattle.std.specs.List.{AllByRecursion};
 ghost use Rattle.words.specs.declared.fault.Kind.TheVariants.{UnfitStages};
 ghost use Rattle.words.specs.declared.fault.Layer.TheVariants.{Pile as the_pile};
 ghost use Rattle.words.specs.Faults.{fault};
@@ -14,7 +14,7 @@ use words::fault::{Fault, Kind, Layer};
 
 /// Refuses the first code that is not sound, by that code's own fault.
 fn check_codes<A: Code>(codes: &[A]) -> Result<(), Fault>
-    ensures { MatchResult result (λ _. All A.Code.sound codes.now) (FirstUnsound A.Code.sound A.Code.refuses codes.now) }
+    ensures { MatchResult result (λ _. AllByRecursion A.Code.sound codes.now) (FirstUnsound A.Code.sound A.Code.refuses codes.now) }
 {
     for code in codes {
         code.check()?;
@@ -40,7 +40,7 @@ fn unfit_stage<H: Chain, A: Code>(
     codes: &[A],
     columns: usize,
 ) -> Result<Option<usize>, Fault>
-    requires { (H.Chain.sound chain.now) × (All A.Code.sound codes.now) }
+    requires { (H.Chain.sound chain.now) × (AllByRecursion A.Code.sound codes.now) }
     ensures { MatchResult result (λ o. o ≡ unfit_from (H.Chain.model chain.now) columns 1 (map A.Code.model codes.now)) (λ _. ⊥) }
 {
     for (i, code) in codes.iter().enumerate() {
@@ -56,7 +56,7 @@ fn unfit_stage<H: Chain, A: Code>(
 
 /// The number of columns: the length of the first stage's code.
 pub(crate) fn count_columns<A: Code>(codes: &[A]) -> usize
-    requires { All A.Code.sound codes.now }
+    requires { AllByRecursion A.Code.sound codes.now }
     ensures value { result ≡ columns_of (map A.Code.model codes.now) }
     ensures bound { result ≤ 4096 }
 {
@@ -74,7 +74,7 @@ fn unfit_at(place: usize) -> Fault
 
 /// Refuses codes that do not fit the chain: the first such stage, or 0 where only the cells are too many.
 fn check_fit<H: Chain, A: Code>(chain: &H, codes: &[A]) -> Result<(), Fault>
-    requires { (H.Chain.sound chain.now) × (All A.Code.sound codes.now) }
+    requires { (H.Chain.sound chain.now) × (AllByRecursion A.Code.sound codes.now) }
     ensures { MatchResult result (λ _. Fits (H.Chain.model chain.now) (map A.Code.model codes.now)) (RefusesFit (H.Chain.model chain.now) (map A.Code.model codes.now)) }
 {
     let columns = count_columns(codes);

@@ -1,6 +1,6 @@
 // The bits of a pile's message as the symbols of its stages' messages, most significant bit first.
 ghost use Rattle.std.specs.Prelude.{◌≡◌, ◌*◌, ◌<◌, ◌≤◌, map, length, MatchResult};
-ghost use Rattle.std.specs.List.{AllByRecursion as All};
+ghost use Rattle.std.specs.List.{AllByRecursion};
 ghost use Rattle.chains.specs.Bits.{spelled};
 ghost use Rattle.pile_laws.specs.Build.{stage_bits, stage_words, symbols as symbols_of, total_bits};
 ghost use Rattle.pile_laws.specs.Fit.{EachLong};
@@ -12,7 +12,7 @@ use words::fault::Fault;
 
 /// The number that up to eight bits spell.
 fn spell(bits: &[u8]) -> u8
-    requires { (length bits.now ≤ 8) × (All (λ b. b < 2) bits.now) }
+    requires { (length bits.now ≤ 8) × (AllByRecursion (λ b. b < 2) bits.now) }
     ensures { result ≡ spelled bits.now }
 {
     let mut number: u16 = 0;
@@ -24,7 +24,7 @@ fn spell(bits: &[u8]) -> u8
 
 /// Reads symbols of a width off the bits that spell them.
 pub(crate) fn read_symbols(bits: &[u8], width: usize, symbols: &mut [u8])
-    requires { (width ≤ 8) × ((length bits.now ≡ length symbols.old * width) × (All (λ b. b < 2) bits.now)) }
+    requires { (width ≤ 8) × ((length bits.now ≡ length symbols.old * width) × (AllByRecursion (λ b. b < 2) bits.now)) }
     ensures { symbols.new ≡ symbols_of width (length symbols.old) bits.now }
 {
     for i in 0..symbols.len() {
@@ -40,7 +40,7 @@ fn encode_symbols<A: Code>(
     symbols: &mut [u8],
     word: &mut [u8],
 ) -> Result<(), Fault>
-    requires { (A.Code.sound code.now) × ((length bits.now ≡ stage_bits (A.Code.model code.now)) × ((All (λ b. b < 2) bits.now) × ((length symbols.old ≡ (A.Code.model code.now).message_len) × (length word.old ≡ (A.Code.model code.now).len)))) }
+    requires { (A.Code.sound code.now) × ((length bits.now ≡ stage_bits (A.Code.model code.now)) × ((AllByRecursion (λ b. b < 2) bits.now) × ((length symbols.old ≡ (A.Code.model code.now).message_len) × (length word.old ≡ (A.Code.model code.now).len)))) }
     ensures { MatchResult result (λ _. word.new ≡ (A.Code.model code.now).codeword (symbols_of (A.Code.model code.now).width (A.Code.model code.now).message_len bits.now)) (λ _. ⊥) }
 {
     read_symbols(bits, code.width(), symbols);
@@ -49,7 +49,7 @@ fn encode_symbols<A: Code>(
 
 /// The codeword of a stage's message, which is given by its bits.
 fn encode_stage<A: Code>(code: &A, bits: &[u8], word: &mut [u8]) -> Result<(), Fault>
-    requires { (A.Code.sound code.now) × ((length bits.now ≡ stage_bits (A.Code.model code.now)) × ((All (λ b. b < 2) bits.now) × (length word.old ≡ (A.Code.model code.now).len))) }
+    requires { (A.Code.sound code.now) × ((length bits.now ≡ stage_bits (A.Code.model code.now)) × ((AllByRecursion (λ b. b < 2) bits.now) × (length word.old ≡ (A.Code.model code.now).len))) }
     ensures { MatchResult result (λ _. word.new ≡ (A.Code.model code.now).codeword (symbols_of (A.Code.model code.now).width (A.Code.model code.now).message_len bits.now)) (λ _. ⊥) }
 {
     let mut symbols = [0; 4096];
@@ -63,8 +63,8 @@ pub(crate) fn encode_stages<A: Code>(
     columns: usize,
     words: &mut [u8],
 ) -> Result<(), Fault>
-    requires codes { (All A.Code.sound codes.now) × ((length codes.now ≤ 5) × (EachLong columns (map A.Code.model codes.now))) }
-    requires message { (length message.now ≡ total_bits (map A.Code.model codes.now)) × (All (λ b. b < 2) message.now) }
+    requires codes { (AllByRecursion A.Code.sound codes.now) × ((length codes.now ≤ 5) × (EachLong columns (map A.Code.model codes.now))) }
+    requires message { (length message.now ≡ total_bits (map A.Code.model codes.now)) × (AllByRecursion (λ b. b < 2) message.now) }
     requires room { columns * length codes.now ≤ length words.old }
     ensures { MatchResult result (λ _. words_in columns (length codes.now) words.new ≡ stage_words (map A.Code.model codes.now) message.now) (λ _. ⊥) }
 {

@@ -1,6 +1,6 @@
 // The numbers of a pile whose parts are sound and fit: message bits and reach.
 ghost use Rattle.std.specs.Prelude.{◌≡◌, ◌*◌, ◌≤◌, min, map, length, MatchResult};
-ghost use Rattle.std.specs.List.{AllByRecursion as All};
+ghost use Rattle.std.specs.List.{AllByRecursion};
 ghost use Rattle.chains.specs.Model.{Stage};
 ghost use Rattle.pile_laws.specs.Build.{stage_bits, total_bits, reach as reach_of};
 ghost use Rattle.pile_laws.specs.Fit.{Fits};
@@ -20,7 +20,7 @@ pub(crate) fn bits_of<A: Code>(code: &A) -> usize
 
 /// K: the bits of a pile's message.
 pub(crate) fn count_bits<A: Code>(codes: &[A]) -> usize
-    requires { (All A.Code.sound codes.now) × (length codes.now ≤ 5) }
+    requires { (AllByRecursion A.Code.sound codes.now) × (length codes.now ≤ 5) }
     ensures { result ≡ total_bits (map A.Code.model codes.now) }
 {
     let mut bits = 0;
@@ -47,7 +47,7 @@ fn stage_reach<H: Chain, A: Code>(chain: &H, code: &A, stage: usize) -> Result<u
 
 /// D: the least inner times outer distance over the stages.
 pub(crate) fn least_reach<H: Chain, A: Code>(chain: &H, codes: &[A]) -> Result<usize, Fault>
-    requires { (H.Chain.sound chain.now) × ((All A.Code.sound codes.now) × (Fits (H.Chain.model chain.now) (map A.Code.model codes.now))) }
+    requires { (H.Chain.sound chain.now) × ((AllByRecursion A.Code.sound codes.now) × (Fits (H.Chain.model chain.now) (map A.Code.model codes.now))) }
     ensures { MatchResult result (λ d. d ≡ reach_of (H.Chain.model chain.now) (map A.Code.model codes.now)) (λ _. ⊥) }
 {
     let mut reach = stage_reach(chain, &codes[0], 1)?;

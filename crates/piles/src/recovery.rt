@@ -1,6 +1,6 @@
 // The message of a pile by the codewords of its stages: each stage's message, and the bits that spell it.
 ghost use Rattle.std.specs.Prelude.{◌≡◌, ℕ, ◌*◌, ◌<◌, ◌≤◌, List, map, length, MatchResult};
-ghost use Rattle.std.specs.List.{AllByRecursion as All};
+ghost use Rattle.std.specs.List.{AllByRecursion};
 ghost use Rattle.chains.specs.Bits.{bits_of};
 ghost use Rattle.codes.specs.Model.{Message};
 ghost use Rattle.pile_laws.specs.Build.{encoded, joined_bits, spelled_out, stage_bits, total_bits};
@@ -66,7 +66,7 @@ pub(crate) fn recover_stages<A: Code>(
     words: &[u8],
     bits: &mut [u8],
 ) -> Result<(), Fault>
-    requires codes { (All A.Code.sound codes.now) × ((length codes.now ≤ 5) × (EachLong columns (map A.Code.model codes.now))) }
+    requires codes { (AllByRecursion A.Code.sound codes.now) × ((length codes.now ≤ 5) × (EachLong columns (map A.Code.model codes.now))) }
     requires words { (columns * length codes.now ≤ length words.now) × (((k : ℕ) → k < length codes.now → EncodedAt (map A.Code.model codes.now) (words_in columns (length codes.now) words.now) k)) }
     requires room { length bits.old ≡ total_bits (map A.Code.model codes.now) }
     ensures { MatchResult result (λ _. (us : List (List ℕ)) × EachMessage (map A.Code.model codes.now) us × (encoded (map A.Code.model codes.now) us ≡ words_in columns (length codes.now) words.now) × (bits.new ≡ joined_bits (map A.Code.model codes.now) us)) (λ _. ⊥) }

@@ -2,7 +2,7 @@
 use Rattle.std.proofs.Common.{◌≡◌, ℕ, suc, ◌+◌, ◌*◌, ◌<◌, ◌≤◌, min, cond, leb, List, [], ◌∷◌, map, length, get_or, Some, None, sum_by, Option, sym, refl, ap, ◌∙◌, subst, ap₂, arith}
 use mathlib.Core.Logic.{∥∥₁_elim}
 use native.Mathlib.Bridge.{le_prop}
-use Rattle.std.specs.List.{AllByRecursion as All}
+use Rattle.std.specs.List.{AllByRecursion}
 use Rattle.std.proofs.lemmas.List.{get_or-take}
 use Rattle.std.proofs.lemmas.List.Sums.{sum_by-cons}
 use Rattle.std.proofs.lemmas.Bool.{and_from, cond-true, cond-false, eq-eqb, le-leb, lt-leb}
@@ -54,7 +54,7 @@ used_numbered t h = each_from t.chain t.columns 0 (used_stages t) at
         (subst (Numbered t.chain t.columns j) (sym (get_or-take (stages_of t.chain) t.stages j blank within)) (table_numbered t h j within))
 
 -- each of them is the record of a code that can be made
-each_makeable : (chain : ChainKind) (n i : ℕ) (ss : List Stage) → Known chain → 0 < n → n ≤ 4096 → i + length ss ≡ stages_of chain → EachNumbered chain n i ss → All Makeable ss
+each_makeable : (chain : ChainKind) (n i : ℕ) (ss : List Stage) → Known chain → 0 < n → n ≤ 4096 → i + length ss ≡ stages_of chain → EachNumbered chain n i ss → AllByRecursion Makeable ss
 each_makeable chain n i [] known some few e each = tt
 each_makeable chain n i (s ∷ ss) known some few e each =
     let here : i < stages_of chain = omega arith in (
@@ -69,7 +69,7 @@ each_makeable chain n i (s ∷ ss) known some few e each =
       each_makeable chain n (suc i) ss known some few (omega arith) each.1,
     )
 
-pub all_makeable : (t : Table) → ∥ Lawful t ∥₁ → All Makeable (used_stages t)
+pub all_makeable : (t : Table) → ∥ Lawful t ∥₁ → AllByRecursion Makeable (used_stages t)
 all_makeable t lawful =
     each_makeable t.chain t.columns 0 (used_stages t) (known_chain t lawful) (∥∥₁_elim lawful le_prop (λ l. l.some_columns))
     (few_columns t.chain t.columns (known_chain t lawful) (cells_within t lawful))

@@ -1,6 +1,6 @@
 -- The pile of a recipe is made. Assumes nothing.
 use Rattle.std.proofs.Common.{◌≡◌, List, [], ◌∷◌, map, take, is_some, Ok, Err, Result, sym, ap, ◌∙◌, subst, inl, inr, true≢false, MatchResult}
-use Rattle.std.specs.List.{AllByRecursion as All}
+use Rattle.std.specs.List.{AllByRecursion}
 use Rattle.words.specs.declared.fault.Fault.{Fault}
 use Rattle.chains.specs.Model.{ChainModel}
 use Rattle.codes.specs.Model.{CodeModel}
@@ -16,7 +16,7 @@ use Rattle.recipe_piles.specs.declared.parts.Parts.{Parts}
 use Rattle.recipe_piles.specs.Parts.{RecipeChain, StageCode, chain_model, chain_sound, code_model, code_sound, codes_of}
 use Rattle.recipe_piles.specs.Made.{IsChain, Made, PartsOf, PileOf, StagesHave}
 
-stages_sound : (ss : List Stage) (cs : List StageCode) → StagesHave ss cs → All code_sound cs
+stages_sound : (ss : List Stage) (cs : List StageCode) → StagesHave ss cs → AllByRecursion code_sound cs
 stages_sound [] [] have = tt
 stages_sound [] (c ∷ cs) have = absurd have
 stages_sound (s ∷ ss) [] have = absurd have

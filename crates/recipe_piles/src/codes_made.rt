@@ -1,6 +1,6 @@
 // The codes that a recipe names.
 ghost use Rattle.std.specs.Prelude.{◌≡◌, ◌<◌, ◌≤◌, length, take};
-ghost use Rattle.std.specs.List.{AllByRecursion as All};
+ghost use Rattle.std.specs.List.{AllByRecursion};
 ghost use Rattle.fields.specs.Recipe.{RecipeWidth};
 ghost use Rattle.codes.specs.Making.{InRange};
 ghost use Rattle.recipes.specs.declared.kinds.CodeKind.TheVariants.{Open as TheOpen, Repetition as the_repetition, ReedSolomon as the_polynomial, ExtendedReedSolomon as the_extension};
@@ -65,7 +65,7 @@ fn make_code(stage: &Stage) -> Result<StageCode, Fault>
 
 /// The codes of some stages, first to last. What stands behind them has no meaning.
 pub(crate) fn make_codes(stages: &[Stage]) -> Result<[StageCode; 5], Fault>
-    requires { (All Makeable stages.now) × ((0 < length stages.now) × (length stages.now ≤ 5)) }
+    requires { (AllByRecursion Makeable stages.now) × ((0 < length stages.now) × (length stages.now ≤ 5)) }
     ensures { Made (λ codes. StagesHave stages.now (take (length stages.now) codes)) result }
 {
     let first = make_code(&stages[0])?;

@@ -4,7 +4,7 @@ use mathlib.Core.HLevel.{×_prop}
 use mathlib.Core.Logic.{∥∥₁_elim}
 use native.Mathlib.Bridge.{le_prop}
 use native.Mathlib.Nat.{ℕ_set}
-use Rattle.std.specs.List.{AllByRecursion as All}
+use Rattle.std.specs.List.{AllByRecursion}
 use Rattle.std.proofs.ByRecursion.{All-from_get_or}
 use Rattle.std.proofs.lemmas.List.{length-take-le, get_or-take}
 use Rattle.recipes.specs.declared.kinds.ChainKind.{ChainKind}
@@ -78,7 +78,7 @@ length_used t h =
     let five = ∥∥₁_elim h (ℕ_set _ _) (λ lawful. lawful.five) in
     length-take-le (stages_of t.chain) t.stages (omega (arith, five, few_stages t.chain (known_chain t h)))
 
-pub all_bounded : (t : Table) → ∥ Lawful t ∥₁ → All Bounded (used_stages t)
+pub all_bounded : (t : Table) → ∥ Lawful t ∥₁ → AllByRecursion Bounded (used_stages t)
 all_bounded t h = All-from_get_or Bounded (used_stages t) blank each
   where
     each : (i : ℕ) → i < length (used_stages t) → Bounded (get_or (used_stages t) i blank)

@@ -1,6 +1,6 @@
 // A recipe that was read: always the table of a pile that can be made.
 ghost use Rattle.std.specs.Prelude.{◌≡◌, ◌/◌, ◌<◌, ◌≤◌, min, map, length, Some, None, sum_by, MatchResult};
-ghost use Rattle.std.specs.List.{AllByRecursion as All};
+ghost use Rattle.std.specs.List.{AllByRecursion};
 ghost use Rattle.recipes.specs.Chains.{stages_of};
 ghost use Rattle.recipes.specs.Meaning.{Lawful, Describes};
 ghost use Rattle.recipes.specs.Rules.{Headed, SingleMeaning, first_broken, rules_from, recipe_refusal};
@@ -54,7 +54,7 @@ fn lesser(a: usize, b: usize) -> usize
 }
 
 fn sum_bits(stages: &[Stage]) -> usize
-    requires { (All Bounded stages.now) × (length stages.now ≤ 5) }
+    requires { (AllByRecursion Bounded stages.now) × (length stages.now ≤ 5) }
     ensures { result ≡ sum_by stage_bits stages.now }
 {
     let mut bits = 0;
@@ -65,7 +65,7 @@ fn sum_bits(stages: &[Stage]) -> usize
 }
 
 fn least_reach(stages: &[Stage]) -> usize
-    requires { (All Bounded stages.now) × (0 < length stages.now) }
+    requires { (AllByRecursion Bounded stages.now) × (0 < length stages.now) }
     ensures { result ≡ smallest (map stage_reach stages.now) }
 {
     let mut reach = reach_of(&stages[0]);

@@ -1,6 +1,6 @@
 -- What two guesses and the key equation between them come to. Assumes nothing.
 use Rattle.std.proofs.Common.{◌≡◌, ℕ, ◌+◌, ◌-◌, ◌^◌, ◌<◌, ◌≤◌, min, List, length, take, None, Ok, Err, Result, sym, refl, ap, ◌∙◌, subst, arith}
-use Rattle.std.specs.List.{AllByRecursion as All}
+use Rattle.std.specs.List.{AllByRecursion}
 use Rattle.std.proofs.ByRecursion.{All-from_get_or}
 use Rattle.words.specs.declared.fault.Fault.{Fault}
 use Rattle.words.specs.declared.fault.Layer.TheVariants.{Code}
@@ -20,11 +20,11 @@ use Rattle.reed_solomon.specs.Finding.{Received, Guessed, Found, Replaced}
 use Rattle.reed_solomon.specs.Passes.{Rightful}
 
 -- elements are bytes
-pub bytes : (f : FieldModel) → FieldLaws f → (n : ℕ) (xs : List ℕ) → length xs ≡ n → Below f n xs → All (λ x. x < 256) xs
+pub bytes : (f : FieldModel) → FieldLaws f → (n : ℕ) (xs : List ℕ) → length xs ≡ n → Below f n xs → AllByRecursion (λ x. x < 256) xs
 bytes f laws n xs long below = All-from_get_or (λ x. x < 256) xs 0 (λ j l. omega (arith, below j (omega arith), size_most f laws))
 
 -- harm as the call that measures it answers
-pub measured : (word marks v : List ℕ) → length word ≤ 4096 → length marks ≡ length word → length v ≡ length word → All (λ m. m < 2) marks → All (λ x. x < 256) word → All (λ x. x < 256) v →
+pub measured : (word marks v : List ℕ) → length word ≤ 4096 → length marks ≡ length word → length v ≡ length word → AllByRecursion (λ m. m < 2) marks → AllByRecursion (λ x. x < 256) word → AllByRecursion (λ x. x < 256) v →
     answered (refusal Code (harm_buffers word marks v)) (harm word marks v) ≡ Ok (harm word marks v)
 measured word marks v short lm lv small bw bv =
     let places : length word ≡ min (length word) 4096 = omega arith in

@@ -1,6 +1,6 @@
 -- What the search for the near codeword answers. Assumes nothing.
 use Rattle.std.specs.Prelude.{◌≡◌, ℕ, ◌+◌, ◌-◌, ◌<◌, ◌≤◌, List, length, Result, MatchResult, ◌≢◌}
-use Rattle.std.specs.List.{AllByRecursion as All}
+use Rattle.std.specs.List.{AllByRecursion}
 use Rattle.words.specs.declared.fault.Fault.{Fault}
 use Rattle.words.specs.declared.fault.Kind.TheVariants.{NoCodeword}
 use Rattle.words.specs.declared.fault.Layer.TheVariants.{Code}
@@ -12,7 +12,7 @@ use Rattle.reed_solomon_laws.proofs.Arrays.{Below, Interpolated}
 
 -- a word of the code's length and its marks
 abbrev pub Received : FieldModel → ℕ → (word marks : List ℕ) → Type 0
-Received f k word marks = InKind f (length word) k × (length marks ≡ length word) × Below f (length word) word × All (λ m. m < 2) marks
+Received f k word marks = InKind f (length word) k × (length marks ≡ length word) × Below f (length word) word × AllByRecursion (λ m. m < 2) marks
 
 abbrev pub reach : ℕ → List ℕ → ℕ
 reach k word = length word - k + 1
@@ -31,7 +31,7 @@ Found f k word marks v r =
 
 -- a message for codewords of n symbols
 abbrev pub MessageOfKind : FieldModel → ℕ → List ℕ → Type 0
-MessageOfKind f n message = InKind f n (length message) × All (λ x. x < size f) message
+MessageOfKind f n message = InKind f n (length message) × AllByRecursion (λ x. x < size f) message
 
 -- whether a word is the codeword of a message
 abbrev pub Recognized : FieldModel → (message word : List ℕ) → Result (Unit {0}) Fault → Type 0

@@ -2,7 +2,7 @@
 use Rattle.std.proofs.Common.{◌≡◌, ℕ, zero, suc, ◌+◌, ◌-◌, ◌<◌, ◌≤◌, eqb, ◌⊎◌, ◌↔◌, List, [], ◌∷◌, ◌++◌, map, length, get_or, replicate, Some, unwrap_or, sym, refl, ap, ◌∙◌, subst, ap₂, inl, inr, zero-add, add-one, arith, length-append}
 use native.Mathlib.Decide.{dec_lt}
 use lib.ListN.{length-map}
-use Rattle.std.specs.List.{AllByRecursion as All}
+use Rattle.std.specs.List.{AllByRecursion}
 use Rattle.std.proofs.lemmas.List.FromFn.{length-map-range_with_len, get_or-map-range_with_len}
 use Rattle.std.proofs.lemmas.List.{ext_get_or, length-replicate}
 use Rattle.algebra.specs.Field.{Field, same}
@@ -154,15 +154,15 @@ module _ (f : FieldModel) (laws : FieldLaws f) where
   value_padded [] m x = value_zeros m x
   value_padded (c ∷ cs) m x = ap (λ (a : Element f). sum_of f laws c (product_of f laws x a)) (value_padded cs m x)
 
-  all_numbers : (cs : List (Element f)) → All (λ a. a < size f) (map (λ (c : Element f). c.0) cs)
+  all_numbers : (cs : List (Element f)) → AllByRecursion (λ a. a < size f) (map (λ (c : Element f). c.0) cs)
   all_numbers [] = tt
   all_numbers (c ∷ cs) = (c.1, all_numbers cs)
 
-  value_below : (cs : List ℕ) → All (λ a. a < size f) cs → (z : ℕ) → z < size f → value f cs z < size f
+  value_below : (cs : List ℕ) → AllByRecursion (λ a. a < size f) cs → (z : ℕ) → z < size f → value f cs z < size f
   value_below [] a z l = (zero_of f laws).1
   value_below (c ∷ cs) a z l = laws.sum_below c (f.product z (value f cs z)) a.0 (laws.product_below z (value f cs z) l (value_below cs a.1 z l))
 
-  value_elements : (cs : List ℕ) → All (λ a. a < size f) cs → (z : ℕ) → z < size f → poly.value (ring_of f laws) (map (element f laws) cs) (element f laws z) ≡ element f laws (value f cs z)
+  value_elements : (cs : List ℕ) → AllByRecursion (λ a. a < size f) cs → (z : ℕ) → z < size f → poly.value (ring_of f laws) (map (element f laws) cs) (element f laws z) ≡ element f laws (value f cs z)
   value_elements [] a z l = sym (element_zero f laws)
   value_elements (c ∷ cs) a z l =
       ap (λ (b : Element f). sum_of f laws (element f laws c) (product_of f laws (element f laws z) b)) (value_elements cs a.1 z l)

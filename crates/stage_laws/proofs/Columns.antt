@@ -1,6 +1,6 @@
 -- One column after the other: a step of each loop over the estimates. Assumes nothing.
 use Rattle.std.proofs.Common.{◌≡◌, ℕ, suc, ◌+◌, ◌^◌, ◌<◌, ◌≤◌, true, false, cond, ltb, List, [], ◌∷◌, ◌++◌, map, length, get_or, take, drop, set, Some, None, Option, sym, ap, ◌∙◌, ap₂, add-one, pow_pos}
-use Rattle.std.specs.List.{AllByRecursion as All}
+use Rattle.std.specs.List.{AllByRecursion}
 use Rattle.std.proofs.lemmas.List.{drop_more, at_drop_more, at_drop_all, take_more_set, map_more}
 use Rattle.std.proofs.lemmas.Bool.{and_parts, eqb-true, ltb-true}
 use Rattle.words.specs.declared.fault.Kind.TheVariants.{TooLarge}
@@ -44,7 +44,7 @@ column_fits : (symbols d : ℕ) (e : Option Estimate) → 0 < symbols → fits_c
 column_fits symbols d None some t = (some, tt)
 column_fits symbols d (Some e) some t = let p = and_parts (ltb e.label symbols) (ltb e.harm d) t in (ltb-true _ _ p.0, ltb-true _ _ p.1)
 
-columns_fit : (symbols d j : ℕ) (es : List (Option Estimate)) → 0 < symbols → first_large symbols d j es ≡ None → All (λ e. trial_symbol e < symbols) es × All (Within d) es
+columns_fit : (symbols d j : ℕ) (es : List (Option Estimate)) → 0 < symbols → first_large symbols d j es ≡ None → AllByRecursion (λ e. trial_symbol e < symbols) es × AllByRecursion (Within d) es
 columns_fit symbols d j [] some e = (tt, tt)
 columns_fit symbols d j (x ∷ es) some e =
     let p = passed_on (fits_column symbols d x) _ (first_large symbols d (suc j) es) e in

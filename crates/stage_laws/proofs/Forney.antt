@@ -1,6 +1,6 @@
 -- The harms of the trials at the thresholds 1 to d add up to the score. Assumes nothing.
 use Rattle.std.proofs.Common.{◌≡◌, ℕ, zero, suc, ◌+◌, ◌-◌, ◌*◌, ◌<◌, ◌≤◌, min, Bool, true, false, cond, eqb, ltb, List, [], ◌∷◌, Some, None, Option, refl, ◌∙◌, ap₂, suc-mul, zero-mul, arith}
-use Rattle.std.specs.List.{AllByRecursion as All}
+use Rattle.std.specs.List.{AllByRecursion}
 use Rattle.std.proofs.lemmas.Bool.{ltb-true, ltb-false}
 use Rattle.words.specs.Harm.{harm_at}
 use Rattle.chains.specs.declared.chain.Estimate.{Estimate}
@@ -56,7 +56,7 @@ no_word : (k : ℕ) (e : Option Estimate) (es : List (Option Estimate)) → tria
 no_word zero e es = refl
 no_word (suc k) e es = omega (arith, no_word k e es)
 
-pub forney : (d : ℕ) (es : List (Option Estimate)) (word : List ℕ) → All (Within d) es → trial_harms d es word ≡ score d es word
+pub forney : (d : ℕ) (es : List (Option Estimate)) (word : List ℕ) → AllByRecursion (Within d) es → trial_harms d es word ≡ score d es word
 forney d [] word w = no_columns d word
 forney d (e ∷ es) [] w = no_word d e es
 forney d (e ∷ es) (x ∷ word) w = split d e es x word ∙ ap₂ (λ (a b : ℕ). a + b) (column d e x w.0) (forney d es word w.1)

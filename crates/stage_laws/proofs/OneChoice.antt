@@ -2,7 +2,7 @@
 use Rattle.std.proofs.Common.{◌≡◌, ℕ, ◌+◌, ◌-◌, ◌*◌, ◌≤◌, Bool, true, false, cond, eqb, List, [], ◌∷◌, length, Some, None, Option, sym, refl, ◌∙◌, mul_assoc, mul-le-mul_left, mul-zero, mul-suc, mul-add, arith}
 use mathlib.Core.List.{List-discrete}
 use native.Mathlib.Decide.{ℕ_discrete}
-use Rattle.std.specs.List.{AllByRecursion as All}
+use Rattle.std.specs.List.{AllByRecursion}
 use Rattle.std.proofs.lemmas.Bool.{eqb-true, eq-eqb}
 use Rattle.words.specs.Distance.{differences}
 use Rattle.chains.specs.declared.chain.Estimate.{Estimate}
@@ -26,7 +26,7 @@ apart_at d (Some e) a b w = by (eqb e.label a) (eqb e.label b) (eqb a b) (λ p q
     by true true false same = let no : false ≡ true = same refl refl in let z : ◌≡◌ {A = ℕ} 0 1 = cc in omega arith
 
 -- so the scores of two words add up to 2·d for each place where they differ
-pub scores_apart : (d : ℕ) (es : List (Option Estimate)) (a b : List ℕ) → All (Within d) es → length a ≡ length es → length b ≡ length es → 2 * d * differences a b ≤ score d es a + score d es b
+pub scores_apart : (d : ℕ) (es : List (Option Estimate)) (a b : List ℕ) → AllByRecursion (Within d) es → length a ≡ length es → length b ≡ length es → 2 * d * differences a b ≤ score d es a + score d es b
 scores_apart d es [] b w la lb = omega (arith, mul-zero (2 * d))
 scores_apart d es (x ∷ a) [] w la lb = omega (arith, mul-zero (2 * d))
 scores_apart d [] (x ∷ a) (y ∷ b) w la lb = absurd (omega arith)
@@ -37,7 +37,7 @@ scores_apart d (e ∷ es) (x ∷ a) (y ∷ b) w la lb =
     by true here rest = omega (arith, mul-add (2 * d) 0 (differences a b), mul-zero (2 * d))
     by false here rest = omega (arith, mul-add (2 * d) 1 (differences a b), mul-suc (2 * d) 0, mul-zero (2 * d))
 
-pub one_choice : (c : CodeModel) → Lawful c → (d : ℕ) (es : List (Option Estimate)) → length es ≡ c.len → All (Within d) es → OneChoice c d es
+pub one_choice : (c : CodeModel) → Lawful c → (d : ℕ) (es : List (Option Estimate)) → length es ≡ c.len → AllByRecursion (Within d) es → OneChoice c d es
 one_choice c lawful d es le w u v cu cv = by (List-discrete ℕ_discrete u v)
   where
     far : (u ≡ v → ⊥) → ⊥

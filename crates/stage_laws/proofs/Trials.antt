@@ -1,6 +1,6 @@
 -- What each trial tells, and what the trials tell together. Assumes nothing.
 use Rattle.std.proofs.Common.{◌≡◌, ℕ, ◌*◌, ◌^◌, ◌<◌, ◌≤◌, Bool, true, false, cond, ltb, List, [], ◌∷◌, map, Some, None, Ok, Err, Option, Result, sym, ap, ◌∙◌, subst₂, ⊎_elim, arith}
-use Rattle.std.specs.List.{AllByRecursion as All}
+use Rattle.std.specs.List.{AllByRecursion}
 use Rattle.std.proofs.ByRecursion.{All-map}
 use Rattle.std.proofs.lemmas.List.{length-map}
 use Rattle.std.proofs.lemmas.Option.{MatchOption-at_none}
@@ -25,7 +25,7 @@ mark_small t (Some e) = by (ltb e.harm t)
     by true = omega arith
     by false = omega arith
 
-marks_small : (t : ℕ) (es : List (Option Estimate)) → All (λ m. m < 2) (map (trial_mark t) es)
+marks_small : (t : ℕ) (es : List (Option Estimate)) → AllByRecursion (λ m. m < 2) (map (trial_mark t) es)
 marks_small t [] = tt
 marks_small t (e ∷ es) = (mark_small t e, marks_small t es)
 

@@ -1,6 +1,6 @@
 -- A trial of a stage: what the code is handed at a threshold, and what the trials tell. Assumes nothing.
 use Rattle.std.specs.Prelude.{◌≡◌, ℕ, ◌^◌, ◌<◌, ◌≤◌, cond, List, map, length, Some, None, Option, nat_lt}
-use Rattle.std.specs.List.{AllByRecursion as All}
+use Rattle.std.specs.List.{AllByRecursion}
 use Rattle.std.specs.Option as options
 use Rattle.words.specs.Harm.{harm}
 use Rattle.chains.specs.declared.chain.Estimate.{Estimate}
@@ -23,7 +23,7 @@ trial_harm t es word = harm (map trial_symbol es) (map (trial_mark t) es) word
 
 -- estimates that no check refuses
 abbrev pub Fitting : CodeModel → ℕ → List (Option Estimate) → Type 0
-Fitting c d es = (length es ≡ c.len) × All (λ e. trial_symbol e < 2 ^ c.width) es × All (Within d) es
+Fitting c d es = (length es ≡ c.len) × AllByRecursion (λ e. trial_symbol e < 2 ^ c.width) es × AllByRecursion (Within d) es
 
 -- a trial gives the choice, or shows that every choice lies too far for it
 abbrev pub Tried : CodeModel → ℕ → List (Option Estimate) → ℕ → List ℕ → Option ℕ → Type 0

@@ -1,6 +1,6 @@
 // The score of a codeword, and whether it is the choice.
 ghost use Rattle.std.specs.Prelude.{◌≡◌, ◌*◌, ◌≤◌, length, nat_lt};
-ghost use Rattle.std.specs.List.{AllByRecursion as All};
+ghost use Rattle.std.specs.List.{AllByRecursion};
 ghost use Rattle.stage_laws.specs.Rule.{score_at, score as score_of, Within};
 
 use chains::chain::Estimate;
@@ -28,7 +28,7 @@ fn score_at(inner: u8, estimate: Option<Estimate>, symbol: u8) -> usize
 pub(crate) fn score(inner: u8, estimates: &[Option<Estimate>], word: &[u8]) -> usize
     requires short { length estimates.now ≤ 4096 }
     requires word { length word.now ≡ length estimates.now }
-    requires within { All (Within inner) estimates.now }
+    requires within { AllByRecursion (Within inner) estimates.now }
     ensures { result ≡ score_of inner estimates.now word.now }
 {
     let mut total = 0;

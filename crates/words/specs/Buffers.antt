@@ -1,6 +1,6 @@
 -- What a call asks of the buffers that it is handed, and which refusal it gives. Assumes nothing.
 use Rattle.std.specs.Prelude.{◌≡◌, ℕ, suc, ◌<◌, cond, List, [], ◌∷◌, length, Some, None, Ok, Err, Option, Result, ◌==◌, nat_lt}
-use Rattle.std.specs.List.{AllByRecursion as All}
+use Rattle.std.specs.List.{AllByRecursion}
 use Rattle.words.specs.declared.buffer.Buffer.{Buffer}
 use Rattle.words.specs.declared.fault.Fault.{Fault}
 use Rattle.words.specs.declared.fault.Kind.TheVariants.{WrongLength, TooLarge}
@@ -49,7 +49,7 @@ refusal layer bs = either (first_of (wrong_length layer) bs) (first_of (too_larg
 
 -- a buffer that no check refuses
 abbrev pub Fits : Given → Type 0
-Fits b = (length b.content ≡ b.wanted) × All (λ x. x < b.below) b.content
+Fits b = (length b.content ≡ b.wanted) × AllByRecursion (λ x. x < b.below) b.content
 
 -- the refusal that is due, else the answer
 abbrev pub answered : {X : Type 0} → Option Fault → X → Result X Fault

@@ -1,5 +1,5 @@
 use Rattle.std.proofs.Common.{ℕ, ◌^◌, ◌<◌, Result, sym, ap, ◌∙◌, subst, arith}
-use Rattle.std.specs.List.{AllByRecursion as All}
+use Rattle.std.specs.List.{AllByRecursion}
 use Rattle.words.specs.declared.fault.Fault.{Fault}
 use Rattle.words.proofs.Rises.{raised}
 use Rattle.memory_laws.specs.Calls.{Recalled, paged}
@@ -43,7 +43,7 @@ gather-requires g c =
     let cm = g.C.Code.model c.args.code.now in
     let fit = (payload_passed mm cm c.args.page c.args.payload.now c.requires.passed).1.0 in
     let is-message = c.in_ok-harm.ensures.restored.0.0.0 in
-    (omega (arith, fit, is-message.0), subst (λ (x : ℕ). All (λ v. v < 2 ^ x) c.restore_page.new.message) c.requires.joins.bits is-message.1)
+    (omega (arith, fit, is-message.0), subst (λ (x : ℕ). AllByRecursion (λ v. v < 2 ^ x) c.restore_page.new.message) c.requires.joins.bits is-message.1)
 
 pub returns : goal.returns
 returns g c =

@@ -1,5 +1,5 @@
 use Rattle.std.proofs.Common.{◌≡◌, ℕ, ◌^◌, ◌<◌, Ok, Err, sym, ap, subst, inl}
-use Rattle.std.specs.List.{AllByRecursion as All}
+use Rattle.std.specs.List.{AllByRecursion}
 use Rattle.words.specs.Faults.{on_page}
 use Rattle.words.proofs.Rises.{raised}
 use Rattle.codes.specs.Model.{Message}
@@ -61,7 +61,7 @@ returns-in_err-message_of g c =
 pub check_spare-requires : goal.check_spare-requires
 check_spare-requires g c =
     let got = fetched g (goal.at.check_spare-requires g c).After-fetch in
-    subst (λ (x : ℕ). All (λ v. v < 2 ^ x) c.message_of.new.message) c.requires.joins.bits (recovered g (goal.at.check_spare-requires g c).After-message_of got.1.1 got.1.2).1.1.1
+    subst (λ (x : ℕ). AllByRecursion (λ v. v < 2 ^ x) c.message_of.new.message) c.requires.joins.bits (recovered g (goal.at.check_spare-requires g c).After-message_of got.1.1 got.1.2).1.1.1
 
 pub returns-in_err-check_spare : goal.returns-in_err-check_spare
 returns-in_err-check_spare g c =

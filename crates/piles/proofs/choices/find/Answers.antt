@@ -1,5 +1,5 @@
 use Rattle.std.proofs.Common.{◌≡◌, ℕ, ◌*◌, ◌<◌, ◌≤◌, List, map, length, Ok, Err, Result, sym, refl, ap, ◌∙◌, subst, inr, arith}
-use Rattle.std.specs.List.{AllByRecursion as All}
+use Rattle.std.specs.List.{AllByRecursion}
 use Rattle.std.proofs.ByRecursion.{All-weaker}
 use Rattle.words.specs.declared.fault.Fault.{Fault}
 use Rattle.words.specs.declared.fault.Layer.TheVariants.{Code}
@@ -59,8 +59,8 @@ returns-in_err-far g c =
     let is : found ≡ laid h n (words_in n (length codes) row) = c.in_ok-lay_columns.ensures ∙ ap (λ (s : ℕ). laid h n (words_in n s row)) (sym many) in
     let cells = laid_chosen h cs laws c.requires.parts.2 word marks n c.requires.columns.0 (length codes) row choices law (sym (length_models model codes)) in
     let short : length word ≤ 4096 = omega (arith, c.requires.word.0.0.0, (fitting h cs c.requires.parts.2).1, ap (λ (m : ℕ). h.breadth * m) c.requires.columns.0) in
-    let bytes : (xs : List ℕ) → All (λ x. x < 2) xs → All (λ x. x < 256) xs = λ xs a. All-weaker (λ x. x < 2) (λ x. x < 256) (λ x l. omega arith) xs a in
-    let measured = harm_answer Code word marks found short (c.requires.word.0.1.0 ∙ sym c.requires.word.0.0.0) (ap length is ∙ cells.0 ∙ sym c.requires.word.0.0.0) c.requires.word.0.1.1 (bytes word c.requires.word.0.0.1) (subst (All (λ x. x < 256)) (sym is) (bytes _ cells.1)) in
+    let bytes : (xs : List ℕ) → AllByRecursion (λ x. x < 2) xs → AllByRecursion (λ x. x < 256) xs = λ xs a. All-weaker (λ x. x < 2) (λ x. x < 256) (λ x l. omega arith) xs a in
+    let measured = harm_answer Code word marks found short (c.requires.word.0.1.0 ∙ sym c.requires.word.0.0.0) (ap length is ∙ cells.0 ∙ sym c.requires.word.0.0.0) c.requires.word.0.1.1 (bytes word c.requires.word.0.0.1) (subst (AllByRecursion (λ x. x < 256)) (sym is) (bytes _ cells.1)) in
     absurd (never_ok (c.in_err-far.ensures ∙ measured))
 
 pub returns-in_err-check_near : goal.returns-in_err-check_near
@@ -82,8 +82,8 @@ returns-in_err-check_near g c =
     let is : found ≡ laid h n (words_in n (length codes) row) = c.in_ok-lay_columns.ensures ∙ ap (λ (s : ℕ). laid h n (words_in n s row)) (sym many) in
     let cells = laid_chosen h cs laws c.requires.parts.2 word marks n c.requires.columns.0 (length codes) row choices law (sym (length_models model codes)) in
     let short : length word ≤ 4096 = omega (arith, c.requires.word.0.0.0, (fitting h cs c.requires.parts.2).1, ap (λ (m : ℕ). h.breadth * m) c.requires.columns.0) in
-    let bytes : (xs : List ℕ) → All (λ x. x < 2) xs → All (λ x. x < 256) xs = λ xs a. All-weaker (λ x. x < 2) (λ x. x < 256) (λ x l. omega arith) xs a in
-    let measured = harm_answer Code word marks found short (c.requires.word.0.1.0 ∙ sym c.requires.word.0.0.0) (ap length is ∙ cells.0 ∙ sym c.requires.word.0.0.0) c.requires.word.0.1.1 (bytes word c.requires.word.0.0.1) (subst (All (λ x. x < 256)) (sym is) (bytes _ cells.1)) in
+    let bytes : (xs : List ℕ) → AllByRecursion (λ x. x < 2) xs → AllByRecursion (λ x. x < 256) xs = λ xs a. All-weaker (λ x. x < 2) (λ x. x < 256) (λ x l. omega arith) xs a in
+    let measured = harm_answer Code word marks found short (c.requires.word.0.1.0 ∙ sym c.requires.word.0.0.0) (ap length is ∙ cells.0 ∙ sym c.requires.word.0.0.0) c.requires.word.0.1.1 (bytes word c.requires.word.0.0.1) (subst (AllByRecursion (λ x. x < 256)) (sym is) (bytes _ cells.1)) in
     let far : c.in_ok-far.far ≡ harm word marks found = ok_same (c.in_ok-far.ensures ∙ measured) in
     let reach-is : c.in_ok-least_reach.field-0 ≡ reach h cs = c.in_ok-least_reach.ensures in
     let words = words_in n (length codes) row in
@@ -112,8 +112,8 @@ returns g c =
     let is : found ≡ laid h n (words_in n (length codes) row) = c.in_ok-lay_columns.ensures ∙ ap (λ (s : ℕ). laid h n (words_in n s row)) (sym many) in
     let cells = laid_chosen h cs laws c.requires.parts.2 word marks n c.requires.columns.0 (length codes) row choices law (sym (length_models model codes)) in
     let short : length word ≤ 4096 = omega (arith, c.requires.word.0.0.0, (fitting h cs c.requires.parts.2).1, ap (λ (m : ℕ). h.breadth * m) c.requires.columns.0) in
-    let bytes : (xs : List ℕ) → All (λ x. x < 2) xs → All (λ x. x < 256) xs = λ xs a. All-weaker (λ x. x < 2) (λ x. x < 256) (λ x l. omega arith) xs a in
-    let measured = harm_answer Code word marks found short (c.requires.word.0.1.0 ∙ sym c.requires.word.0.0.0) (ap length is ∙ cells.0 ∙ sym c.requires.word.0.0.0) c.requires.word.0.1.1 (bytes word c.requires.word.0.0.1) (subst (All (λ x. x < 256)) (sym is) (bytes _ cells.1)) in
+    let bytes : (xs : List ℕ) → AllByRecursion (λ x. x < 2) xs → AllByRecursion (λ x. x < 256) xs = λ xs a. All-weaker (λ x. x < 2) (λ x. x < 256) (λ x l. omega arith) xs a in
+    let measured = harm_answer Code word marks found short (c.requires.word.0.1.0 ∙ sym c.requires.word.0.0.0) (ap length is ∙ cells.0 ∙ sym c.requires.word.0.0.0) c.requires.word.0.1.1 (bytes word c.requires.word.0.0.1) (subst (AllByRecursion (λ x. x < 256)) (sym is) (bytes _ cells.1)) in
     let far : c.in_ok-far.far ≡ harm word marks found = ok_same (c.in_ok-far.ensures ∙ measured) in
     let reach-is : c.in_ok-least_reach.field-0 ≡ reach h cs = c.in_ok-least_reach.ensures in
     (choices, is, far, omega (arith, c.in_ok-check_near.ensures, far, reach-is))

@@ -1,5 +1,5 @@
 use Rattle.std.proofs.Common.{◌≡◌, ℕ, ◌<◌, sym, ap, ◌∙◌, subst, rules}
-use Rattle.std.specs.List.{AllByRecursion as All}
+use Rattle.std.specs.List.{AllByRecursion}
 use Rattle.std.proofs.ByRecursion.{All-from_get_or}
 use Rattle.chains.specs.Model.{Row}
 use Rattle.pile_laws.specs.Build.{labels_at}
@@ -15,6 +15,6 @@ returns g c =
     let cells = c.args.cells.now in
     let labels = c.gather.new.labels in
     let is : labels ≡ labels_at (words_in c.args.columns h.stages c.args.words.now) c.args.j = c.gather.ensures ∙ ap (λ (k : ℕ). labels_at (words_in c.args.columns k c.args.words.now) c.args.j) c.requires.chain.1.0 in
-    let bytes : All (λ x. x < 256) cells = All-from_get_or (λ x. x < 256) cells 0 (λ i l. search rules) in
+    let bytes : AllByRecursion (λ x. x < 256) cells = All-from_get_or (λ x. x < 256) cells 0 (λ i l. search rules) in
     let answer = worded_answer h (g.met.H.Chain.lawful chain s) (g.H.Chain.sound chain) labels cells c.word_of.new.cells c.word_of.result s (subst (Row h) (sym is) c.requires.words.1.1) c.requires.chain.1.1 bytes c.word_of.ensures in
     rw answer.0 (answer.1 ∙ ap h.word is)

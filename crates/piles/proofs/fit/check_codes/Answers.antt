@@ -1,5 +1,5 @@
 use Rattle.std.proofs.Common.{sym, subst}
-use Rattle.std.specs.List.{AllByRecursion as All}
+use Rattle.std.specs.List.{AllByRecursion}
 use Rattle.std.proofs.ByRecursion.{All-more}
 use Rattle.std.proofs.lemmas.List.{take_all}
 use Rattle.words.proofs.Rises.{raised}
@@ -22,4 +22,4 @@ returns-in_err-check g c =
     rw (raised c.from_residual.result c.from_residual.ensures.1) (first_unsound sound refuses c.args.codes.now c.loop-code.code-index a f c.loop-code-test.true c.loop-code.invariant (λ s. bad.sound (subst sound (sym c.code-item.is) s)) (subst (λ x. refuses x f) c.code-item.is bad.refused))
 
 pub returns : goal.returns
-returns g c = subst (All g.A.Code.sound) (take_all _ _ c.loop-code-test.false) c.loop-code.invariant
+returns g c = subst (AllByRecursion g.A.Code.sound) (take_all _ _ c.loop-code-test.false) c.loop-code.invariant

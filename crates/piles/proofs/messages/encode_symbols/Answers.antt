@@ -1,5 +1,5 @@
 use Rattle.std.proofs.Common.{◌≡◌, ℕ, ◌<◌, sym, ap, ◌∙◌, subst, ap₂, arith, rules}
-use Rattle.std.specs.List.{AllByRecursion as All}
+use Rattle.std.specs.List.{AllByRecursion}
 use Rattle.std.proofs.ByRecursion.{All-from_get_or}
 use Rattle.codes.specs.Model.{Message}
 use Rattle.pile_laws.specs.Build.{symbols}
@@ -16,6 +16,6 @@ returns g c =
     let read = c.read_symbols.new.symbols in
     let is : read ≡ symbols m.width m.message_len bits = c.read_symbols.ensures ∙ ap₂ (λ (w k : ℕ). symbols w k bits) (c.width.ensures s) c.requires.1.1.1.0 in
     let message : Message m read = subst (Message m) (sym is) (length_symbols m.width m.message_len bits, small_symbols m.width m.message_len bits (omega (arith, c.requires.1.0)) c.requires.1.1.0) in
-    let bytes : All (λ x. x < 256) word = All-from_get_or (λ x. x < 256) word 0 (λ i l. search rules) in
+    let bytes : AllByRecursion (λ x. x < 256) word = All-from_get_or (λ x. x < 256) word 0 (λ i l. search rules) in
     let answer = encoded_answer m read word c.encode.new.word c.encode.result message c.requires.1.1.1.1 bytes (c.encode.ensures.sound s) in
     rw answer.0 (answer.1 ∙ ap m.codeword is)

@@ -1,5 +1,5 @@
 use Rattle.std.proofs.Common.{◌≡◌, ℕ, ◌*◌, ◌<◌, sym, ap, ◌∙◌, ap₂, arith, rules}
-use Rattle.std.specs.List.{AllByRecursion as All}
+use Rattle.std.specs.List.{AllByRecursion}
 use Rattle.std.proofs.ByRecursion.{All-from_get_or}
 use Rattle.pile_laws.specs.Build.{spelled_out}
 use Rattle.pile_laws.proofs.Recovery.{codeword_answer}
@@ -16,7 +16,7 @@ returns-in_err-message_of g c =
     let code = c.args.code.now in
     let s = c.requires.0 in
     let symbols = c.args.symbols.now in
-    let bytes : All (λ x. x < 256) symbols = All-from_get_or (λ x. x < 256) symbols 0 (λ i l. search rules) in
+    let bytes : AllByRecursion (λ x. x < 256) symbols = All-from_get_or (λ x. x < 256) symbols 0 (λ i l. search rules) in
     let answer = codeword_answer (g.A.Code.model code) c.args.word.now symbols c.message_of.new.message c.message_of.result (g.met.A.Code.lawful code s) c.requires.1.0 c.requires.1.1.0 bytes (c.message_of.ensures.sound s) in
     let fine = answer.0 in
     let was = c.in_err-message_of.was in
@@ -29,6 +29,6 @@ returns g c =
     let s = c.requires.0 in
     let symbols = c.args.symbols.now in
     let read = c.message_of.new.message in
-    let bytes : All (λ x. x < 256) symbols = All-from_get_or (λ x. x < 256) symbols 0 (λ i l. search rules) in
+    let bytes : AllByRecursion (λ x. x < 256) symbols = All-from_get_or (λ x. x < 256) symbols 0 (λ i l. search rules) in
     let answer = codeword_answer (g.A.Code.model code) c.args.word.now symbols read c.message_of.result (g.met.A.Code.lawful code s) c.requires.1.0 c.requires.1.1.0 bytes (c.message_of.ensures.sound s) in
     (read, answer.1, answer.2, c.write_bits.ensures ∙ ap (λ (w : ℕ). spelled_out w read) (c.width.ensures s))

@@ -1,5 +1,5 @@
 use Rattle.std.proofs.Common.{◌<◌, ◌≤◌, List, length, take, sym, subst}
-use Rattle.std.specs.List.{AllByRecursion as All}
+use Rattle.std.specs.List.{AllByRecursion}
 use Rattle.recipes.specs.declared.table.Stage.{Stage}
 use Rattle.recipes.specs.Totals.{used_stages}
 use Rattle.recipes.proofs.Bounds.{few_used, some_used}
@@ -15,7 +15,7 @@ pub make_codes-requires : goal.make_codes-requires
 make_codes-requires c =
     let t = c.args.recipe.now.table in
     let h = c.args.recipe.now.lawful in
-    subst (λ (ss : List Stage). All Makeable ss × ((0 < length ss) × (length ss ≤ 5))) (sym c.stages-stages.ensures) (all_makeable t h, (some_used t h, few_used t h))
+    subst (λ (ss : List Stage). AllByRecursion Makeable ss × ((0 < length ss) × (length ss ≤ 5))) (sym c.stages-stages.ensures) (all_makeable t h, (some_used t h, few_used t h))
 
 pub new-requires : goal.new-requires
 new-requires c =

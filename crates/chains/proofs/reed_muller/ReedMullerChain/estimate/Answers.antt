@@ -1,5 +1,5 @@
 use Rattle.std.proofs.Common.{◌+◌, ◌^◌, ◌≤◌, sym, ◌∙◌, subst}
-use Rattle.std.specs.List.{AllByRecursion as All}
+use Rattle.std.specs.List.{AllByRecursion}
 use Rattle.words.proofs.Rises.{raised, checked_err}
 use Rattle.chains.specs.Model.{at_stage}
 use Rattle.chains.specs.Promises.{Estimates}
@@ -10,7 +10,7 @@ use Rattle.chains.specs.MullerColumns.{muller_sizes}
 use Rattle.chains.proofs.reed_muller.ReedMullerChain.estimate.Goals as goal
 
 pub check_reading-requires : goal.check_reading-requires
-check_reading-requires c = subst (All (λ w. w ≤ 8)) (sym c.widths.ensures) (muller_sizes c.args.self.now.r c.args.self.now.range).few_width
+check_reading-requires c = subst (AllByRecursion (λ w. w ≤ 8)) (sym c.widths.ensures) (muller_sizes c.args.self.now.r c.args.self.now.range).few_width
 
 pub returns-in_err-check_reading : goal.returns-in_err-check_reading
 returns-in_err-check_reading c =

@@ -1,5 +1,5 @@
 use Rattle.std.proofs.Common.{◌≡◌, ◌+◌, ◌^◌, ◌≤◌, sym, ap, ◌∙◌, subst, ap₂, arith}
-use Rattle.std.specs.List.{AllByRecursion as All}
+use Rattle.std.specs.List.{AllByRecursion}
 use Rattle.words.specs.Buffers.{checked}
 use Rattle.words.proofs.Rises.{raised, checked_err}
 use Rattle.chains.specs.Bits.{bits_of}
@@ -15,7 +15,7 @@ use Rattle.chains.specs.Spelling.{bits_none}
 use Rattle.chains.proofs.reed_muller.ReedMullerChain.word_of.Goals as goal
 
 pub check_row-requires : goal.check_row-requires
-check_row-requires c = subst (All (λ w. w ≤ 8)) (sym c.widths.ensures) (muller_sizes c.args.self.now.r c.args.self.now.range).few_width
+check_row-requires c = subst (AllByRecursion (λ w. w ≤ 8)) (sym c.widths.ensures) (muller_sizes c.args.self.now.r c.args.self.now.range).few_width
 
 pub returns-in_err-check_row : goal.returns-in_err-check_row
 returns-in_err-check_row c =

@@ -1,5 +1,5 @@
 use Rattle.std.proofs.Common.{◌≡◌, Err, sym, refl, ◌∙◌, subst, arith, take_all}
-use Rattle.std.specs.List.{AllByRecursion as All}
+use Rattle.std.specs.List.{AllByRecursion}
 use Rattle.std.proofs.ByRecursion.{All-more}
 use Rattle.codes.specs.Kinds.{open_code}
 use Rattle.codes.specs.Promises.{Corrected}
@@ -33,7 +33,7 @@ returns c =
     let marks = c.args.marks.now in
     let none = correct_passes model _ (shifted self.width self.narrow) word marks c.in_ok-check_correct.ensures in
     let fit = damage_fits model word marks none in
-    let clean = no_harm word marks (subst (All (λ m. m ≡ 0)) (take_all _ _ c.loop-mark-test.false) c.loop-mark.invariant) in
+    let clean = no_harm word marks (subst (AllByRecursion (λ m. m ≡ 0)) (take_all _ _ c.loop-mark-test.false) c.loop-mark.invariant) in
     record {
       sound = λ _. corrected model word marks word 0 none word (fit.0, omega (arith, clean)) refl (sym clean);
       unsound = λ no. absurd (no tt);

@@ -1,5 +1,5 @@
 use Rattle.std.proofs.Common.{◌≡◌, ℕ, ◌^◌, ◌<◌, List, [], ◌∷◌, length, get_or, replicate, Ok, Err, sym, refl, ap, ◌∙◌, subst, arith, take_all}
-use Rattle.std.specs.List.{AllByRecursion as All}
+use Rattle.std.specs.List.{AllByRecursion}
 use Rattle.std.proofs.ByRecursion.{All-more, All-get_or}
 use Rattle.words.specs.declared.fault.Fault.{Fault}
 use Rattle.codes.specs.Kinds.{repetition_code}
@@ -38,7 +38,7 @@ returns c =
     let none = message_of_passes model _ (shifted self.width self.narrow) message word c.in_ok-check_message_of.ensures in
     let fit = word_fits model message word none in
     let small = All-get_or (λ x. x < 2 ^ self.width) word 0 0 (omega (arith, fit.0.0, self.some_places)) fit.0.1 in
-    let same = all_same first word (subst (All (λ x. x ≡ first)) (take_all _ _ c.loop-symbol-test.false) c.loop-symbol.invariant) in
+    let same = all_same first word (subst (AllByRecursion (λ x. x ≡ first)) (take_all _ _ c.loop-symbol-test.false) c.loop-symbol.invariant) in
     let whole : replicate n first ≡ word = ap (λ k. replicate k first) (sym fit.0.0) ∙ sym same in
     record {
       sound = λ _. subst (λ (u : List ℕ). Recovered model word message u (Ok tt)) (sym (set_single message first fit.1)) (recovered model word message (first ∷ []) none (refl, (small, tt)) whole);

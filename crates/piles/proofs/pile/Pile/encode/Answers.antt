@@ -1,5 +1,5 @@
 use Rattle.std.proofs.Common.{◌≡◌, ℕ, List, [], ◌∷◌, map, length, take, None, sym, ap, subst, subst₂, arith}
-use Rattle.std.specs.List.{AllByRecursion as All}
+use Rattle.std.specs.List.{AllByRecursion}
 use Rattle.words.specs.declared.fault.Layer.TheVariants.{Code}
 use Rattle.words.specs.Buffers.{refusal, values_below, written_to}
 use Rattle.words.proofs.Rises.{checked_ok}
@@ -16,7 +16,7 @@ count_bits-requires g c =
     let s = c.in_ok-check.ensures.sound in
     let codes = take self.used self.stages in
     let h = g.H.Chain.model self.chain in
-    (subst (All g.A.Code.sound) (sym c.codes-codes.ensures) s.1, omega (arith, ap length c.codes-codes.ensures, codes_many g.A.Code.model codes h s.2, (g.met.H.Chain.lawful self.chain s.0).few_stages))
+    (subst (AllByRecursion g.A.Code.sound) (sym c.codes-codes.ensures) s.1, omega (arith, ap length c.codes-codes.ensures, codes_many g.A.Code.model codes h s.2, (g.met.H.Chain.lawful self.chain s.0).few_stages))
 
 pub write_codeword-requires : goal.write_codeword-requires
 write_codeword-requires g c =

@@ -1,5 +1,5 @@
 use Rattle.std.proofs.Common.{length, take, sym, ap, subst, arith}
-use Rattle.std.specs.List.{AllByRecursion as All}
+use Rattle.std.specs.List.{AllByRecursion}
 use Rattle.pile_laws.proofs.Scans.{codes_many}
 use Rattle.piles.proofs.pile.Pile.message_len.Goals as goal
 
@@ -9,4 +9,4 @@ count_bits-requires g c =
     let s = c.in-Ok.ensures.sound in
     let codes = take self.used self.stages in
     let h = g.H.Chain.model self.chain in
-    (subst (All g.A.Code.sound) (sym c.codes.ensures) s.1, omega (arith, ap length c.codes.ensures, codes_many g.A.Code.model codes h s.2, (g.met.H.Chain.lawful self.chain s.0).few_stages))
+    (subst (AllByRecursion g.A.Code.sound) (sym c.codes.ensures) s.1, omega (arith, ap length c.codes.ensures, codes_many g.A.Code.model codes h s.2, (g.met.H.Chain.lawful self.chain s.0).few_stages))

@@ -1,5 +1,5 @@
 use Rattle.std.proofs.Common.{◌≤◌, List, length, sym, subst}
-use Rattle.std.specs.List.{AllByRecursion as All}
+use Rattle.std.specs.List.{AllByRecursion}
 use Rattle.recipes.specs.declared.table.Stage.{Stage}
 use Rattle.recipes.specs.Totals.{Bounded}
 use Rattle.recipes.proofs.Bounds.{all_bounded, few_used}
@@ -9,4 +9,4 @@ pub sum_bits-requires : goal.sum_bits-requires
 sum_bits-requires c =
     let t = c.args.self.now.table in
     let h = c.args.self.now.lawful in
-    subst (λ (xs : List Stage). All Bounded xs × (length xs ≤ 5)) (sym c.stages.ensures) (all_bounded t h, few_used t h)
+    subst (λ (xs : List Stage). AllByRecursion Bounded xs × (length xs ≤ 5)) (sym c.stages.ensures) (all_bounded t h, few_used t h)
