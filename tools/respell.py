@@ -17,6 +17,8 @@ BOUND = [
     "harm-of", "score-of", "size-of", "binary-due", "sized-due", "open-widths", "zero-there",
     "Sound-chain", "Medium-sound", "Medium-refuses", "Code-sound", "Code-refuses", "Worn-cell",
 ]
+# names of this repository's that port.py took for the library's
+TAKEN = {"type_size": "field_size", "get_d_bits": "get_or_bits"}
 WORDS = {"getD": "get_or", "sumBy": "sum_by", "countBy": "count_by"}
 
 
@@ -97,6 +99,8 @@ def main():
             imported.update(x.strip() for x in items.split(","))
     # a name that a library has too stays as the library spells it
     names = {old: new for old, new in own.items() if old != new and old not in goals and old not in imported}
+
+    names.update(TAKEN)
 
     # names that fall together: with one another, with a name that stands already, or with one of the library's
     together = collections.defaultdict(set)

@@ -53,12 +53,12 @@ bits_spelled (b ∷ bs) a =
     let low : (b * 2 ^ k + s) % 2 ^ k ≡ s % 2 ^ k = mod_low b k s small ∙ sym (mod-eq_of_lt small) in
     ap₂ ◌∷◌ head (same_bits k _ s low ∙ bits_spelled bs a.1)
 
-pub get_d_bits : (k x p : ℕ) → p < k → slice_index (bits_of k x) p ≡ x / 2 ^ (k - 1 - p) % 2
-get_d_bits zero x p h = absurd (omega arith)
-get_d_bits (suc k) x zero h = let top : k ≡ suc k - 1 - 0 = omega arith in ap (λ n. x / 2 ^ n % 2) top
-get_d_bits (suc k) x (suc p) h =
+pub get_or_bits : (k x p : ℕ) → p < k → slice_index (bits_of k x) p ≡ x / 2 ^ (k - 1 - p) % 2
+get_or_bits zero x p h = absurd (omega arith)
+get_or_bits (suc k) x zero h = let top : k ≡ suc k - 1 - 0 = omega arith in ap (λ n. x / 2 ^ n % 2) top
+get_or_bits (suc k) x (suc p) h =
     let next : k - 1 - p ≡ suc k - 1 - suc p = omega arith in
-    get_d_bits k x p (omega arith) ∙ ap (λ n. x / 2 ^ n % 2) next
+    get_or_bits k x p (omega arith) ∙ ap (λ n. x / 2 ^ n % 2) next
 
 -- one bit more at the end
 pub spelled_push : (bs : List ℕ) (b : ℕ) → spelled (bs ++ (b ∷ [])) ≡ 2 * spelled bs + b

@@ -16,7 +16,7 @@ meet (x ∷ set) (y ∷ cells) = min x y + meet set cells
 
 -- a set votes for b if it has no blank cell and the sum b
 abbrev pub voice : ℕ → List ℕ → List ℕ → List ℕ → ℕ
-voice b set cells marks = cond ((meet set marks) == 0 && (meet set cells % 2) == b) 1 0
+voice b set cells marks = cond (meet set marks == 0 && (meet set cells % 2) == b) 1 0
 
 abbrev pub votes : ℕ → List (List ℕ) → List ℕ → List ℕ → ℕ
 votes b [] cells marks = 0

@@ -1,7 +1,7 @@
 // Arithmetic in the field below an extension. Elements of an extension come apart into two elements of that field.
 ghost use Rattle.std.specs.Prelude.{◌≡◌, ℕ, ◌+◌, ◌*◌, ◌/◌, ◌%◌, ◌^◌, ◌<◌, ◌≤◌, Ok, Err};
 ghost use Rattle.field_laws.specs.Extensions.{Rootless};
-ghost use Rattle.field_laws.specs.Fields.{size as type_size};
+ghost use Rattle.field_laws.specs.Fields.{size as field_size};
 ghost use Rattle.fields.specs.Answers.{Checks};
 ghost use Rattle.fields.specs.Below.{Narrow, Trace, TwoProducts, Norm, ProductParts, ScaledParts, Scaled, SumOf, ProductOf, InverseOf};
 
@@ -46,8 +46,8 @@ pub(crate) fn size_above(width: u8) -> usize
 /// The two parts of an element.
 pub(crate) fn split(width: u8, x: u8) -> Parts
     requires { width ≤ 4 }
-    ensures low_value { (result.low ≡ x % 2 ^ width) × (result.high ≡ x / 2 ^ width) }
-    ensures low_bound { (result.low < 2 ^ width) × (x < 2 ^ (2 * width) → result.high < 2 ^ width) }
+    ensures value { (result.low ≡ x % 2 ^ width) × (result.high ≡ x / 2 ^ width) }
+    ensures bounds { (result.low < 2 ^ width) × (x < 2 ^ (2 * width) → result.high < 2 ^ width) }
 {
     let q = 1 << width;
     Parts {
@@ -79,7 +79,7 @@ pub(crate) fn trace<F: Field>(field: &F, e: u8) -> Result<u8, Fault>
 /// Ok if no element e has e·e + e = c; else 13.
 pub(crate) fn no_root<F: Field>(field: &F, size: u8, c: u8) -> Result<(), Fault>
     requires sound { F.sound field.now }
-    requires size_value { size ≡ type_size (F.model field.now) }
+    requires size_value { size ≡ field_size (F.model field.now) }
     ensures { Checks (Rootless (F.model field.now) c) result }
 {
     for e in 0..size {

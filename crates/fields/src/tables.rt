@@ -102,8 +102,8 @@ fn antilog(width: u8, i: usize) -> u8
 
 /// The product of two elements: the logs add up.
 pub(crate) fn multiply(width: u8, a: u8, b: u8) -> u8
-    requires le_width { (1 ≤ width) × (width ≤ 8) }
-    requires a_bound { (a < 2 ^ width) × (b < 2 ^ width) }
+    requires width_range { (1 ≤ width) × (width ≤ 8) }
+    requires operands { (a < 2 ^ width) × (b < 2 ^ width) }
     ensures { result ≡ times width width a b }
 {
     if a == 0 || b == 0 {
@@ -114,8 +114,8 @@ pub(crate) fn multiply(width: u8, a: u8, b: u8) -> u8
 
 /// The inverse of an element: the two logs make up one whole round.
 pub(crate) fn invert(width: u8, a: u8) -> Option<u8>
-    requires le_width { (1 ≤ width) × (width ≤ 8) }
-    requires a_bound { a < 2 ^ width }
+    requires width_range { (1 ≤ width) × (width ≤ 8) }
+    requires operands { a < 2 ^ width }
     ensures { result ≡ (polynomial width).reciprocal a }
 {
     if a == 0 {

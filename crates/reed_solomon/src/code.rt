@@ -1,6 +1,6 @@
 // The Reed-Solomon code of a field, a length and a message length.
 ghost use Rattle.std.specs.Prelude.{◌≡◌};
-ghost use Rattle.field_laws.specs.Fields.{size as type_size};
+ghost use Rattle.field_laws.specs.Fields.{size as field_size};
 ghost use Rattle.reed_solomon_laws.specs.Words.{InKind, reed_solomon};
 ghost use Rattle.reed_solomon.specs.Making.{Fits, Makes, Refused};
 ghost use Rattle.reed_solomon_laws.proofs.Laws.{reed_solomon_lawful};
@@ -57,7 +57,7 @@ fn check_systematic<F: Field>(field: &F, len: usize, message_len: usize) -> Resu
 /// How many elements a sound field has.
 fn elements<F: Field>(field: &F) -> usize
     requires { F.sound field.now }
-    ensures { result ≡ type_size (F.model field.now) }
+    ensures { result ≡ field_size (F.model field.now) }
 {
     1 << field.width()
 }

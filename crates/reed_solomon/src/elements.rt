@@ -1,27 +1,27 @@
 // Arithmetic on elements of a sound field. There no call refuses, so each answer is there.
 ghost use Rattle.std.specs.Prelude.{◌≡◌, ◌<◌, Some, ◌≢◌};
-ghost use Rattle.field_laws.specs.Fields.{size as type_size};
+ghost use Rattle.field_laws.specs.Fields.{size as field_size};
 
 use fields::field::Field;
 
 pub(crate) fn add<F: Field>(field: &F, a: u8, b: u8) -> u8
-    requires { (F.sound field.now) × ((a < type_size (F.model field.now)) × (b < type_size (F.model field.now))) }
-    ensures { (result ≡ (F.model field.now).sum a b) × (result < type_size (F.model field.now)) }
+    requires { (F.sound field.now) × ((a < field_size (F.model field.now)) × (b < field_size (F.model field.now))) }
+    ensures { (result ≡ (F.model field.now).sum a b) × (result < field_size (F.model field.now)) }
 {
     field.sum(a, b).unwrap()
 }
 
 pub(crate) fn multiply<F: Field>(field: &F, a: u8, b: u8) -> u8
-    requires { (F.sound field.now) × ((a < type_size (F.model field.now)) × (b < type_size (F.model field.now))) }
-    ensures { (result ≡ (F.model field.now).product a b) × (result < type_size (F.model field.now)) }
+    requires { (F.sound field.now) × ((a < field_size (F.model field.now)) × (b < field_size (F.model field.now))) }
+    ensures { (result ≡ (F.model field.now).product a b) × (result < field_size (F.model field.now)) }
 {
     field.product(a, b).unwrap()
 }
 
 /// The inverse of an element that is not zero.
 pub(crate) fn invert<F: Field>(field: &F, a: u8) -> u8
-    requires { (F.sound field.now) × ((a < type_size (F.model field.now)) × ((a ≢ 0))) }
-    ensures { ((F.model field.now).reciprocal a ≡ Some result) × (result < type_size (F.model field.now)) }
+    requires { (F.sound field.now) × ((a < field_size (F.model field.now)) × (a ≢ 0)) }
+    ensures { ((F.model field.now).reciprocal a ≡ Some result) × (result < field_size (F.model field.now)) }
 {
     field.inverse(a).unwrap().unwrap()
 }

@@ -1,7 +1,7 @@
 // The key equation by values: polynomials q and e with q = t·e at every readable place outside the first choice, where t is
 // the error there over the product of the choice.
 ghost use Rattle.std.specs.Prelude.{◌≡◌, ◌<◌, ◌≤◌, length, if◌then◌else◌, ◌≢◌};
-ghost use Rattle.field_laws.specs.Fields.{size as type_size};
+ghost use Rattle.field_laws.specs.Fields.{size as field_size};
 ghost use Rattle.reed_solomon_laws.proofs.Arrays.{Eliminated, Located};
 ghost use Rattle.reed_solomon.specs.Passes.{Over, Pairs, Advanced, Readings, Lengths, Skips, Rightful};
 
@@ -11,16 +11,16 @@ use fields::field::Field;
 
 /// (y + g) / p
 fn quotient<F: Field>(field: &F, y: u8, g: u8, p: u8) -> u8
-    requires { (F.sound field.now) × ((y < type_size (F.model field.now)) × ((g < type_size (F.model field.now)) × ((p < type_size (F.model field.now)) × ((p ≢ 0))))) }
-    ensures { (Over (F.model field.now) y g p result) × (result < type_size (F.model field.now)) }
+    requires { (F.sound field.now) × ((y < field_size (F.model field.now)) × ((g < field_size (F.model field.now)) × ((p < field_size (F.model field.now)) × (p ≢ 0)))) }
+    ensures { (Over (F.model field.now) y g p result) × (result < field_size (F.model field.now)) }
 {
     multiply(field, add(field, y, g), invert(field, p))
 }
 
 /// q + t·e
 fn miss<F: Field>(field: &F, t: u8, q: u8, e: u8) -> u8
-    requires { (F.sound field.now) × ((t < type_size (F.model field.now)) × ((q < type_size (F.model field.now)) × (e < type_size (F.model field.now)))) }
-    ensures { (result ≡ (F.model field.now).sum q ((F.model field.now).product t e)) × (result < type_size (F.model field.now)) }
+    requires { (F.sound field.now) × ((t < field_size (F.model field.now)) × ((q < field_size (F.model field.now)) × (e < field_size (F.model field.now)))) }
+    ensures { (result ≡ (F.model field.now).sum q ((F.model field.now).product t e)) × (result < field_size (F.model field.now)) }
 {
     add(field, q, multiply(field, t, e))
 }
@@ -35,7 +35,7 @@ fn eliminate<F: Field>(
     u: &mut [u8],
     w: &mut [u8],
 )
-    requires { (F.sound field.now) × (((x < length q.old) × (length q.old ≤ type_size (F.model field.now))) × (((gaps.0 < type_size (F.model field.now)) × (gaps.1 < type_size (F.model field.now))) × (Pairs (F.model field.now) (length q.old) q.old e.old u.old w.old))) }
+    requires { (F.sound field.now) × (((x < length q.old) × (length q.old ≤ field_size (F.model field.now))) × (((gaps.0 < field_size (F.model field.now)) × (gaps.1 < field_size (F.model field.now))) × (Pairs (F.model field.now) (length q.old) q.old e.old u.old w.old))) }
     ensures { Eliminated (F.model field.now) (length q.old) x gaps.0 gaps.1 q.old e.old u.old w.old q.new e.new u.new w.new }
 {
     combine(field, gaps.0, u, gaps.1, q);
@@ -56,7 +56,7 @@ fn advance<F: Field>(
     q1: &mut [u8],
     e1: &mut [u8],
 ) -> bool
-    requires { (F.sound field.now) × (((x < length q0.old) × (length q0.old ≤ type_size (F.model field.now))) × ((t < type_size (F.model field.now)) × (Pairs (F.model field.now) (length q0.old) q0.old e0.old q1.old e1.old))) }
+    requires { (F.sound field.now) × (((x < length q0.old) × (length q0.old ≤ field_size (F.model field.now))) × ((t < field_size (F.model field.now)) × (Pairs (F.model field.now) (length q0.old) q0.old e0.old q1.old e1.old))) }
     ensures { Advanced (F.model field.now) (length q0.old) x t bounds q0.old e0.old q1.old e1.old q0.new e0.new q1.new e1.new result }
 {
     let gap0 = miss(field, t, q0[x], e0[x]);

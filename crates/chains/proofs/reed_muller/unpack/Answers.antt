@@ -1,7 +1,7 @@
 use Rattle.std.proofs.Common.{◌<◌, [], ◌∷◌, ◌++◌, length, sym, ◌∙◌, ap₂, arith}
 use Rattle.std.proofs.lemmas.List.{take_more_set, take_more, take_all}
 use Rattle.chains.specs.Bits.{bits_of}
-use Rattle.chains.specs.Spelling.{length_bits, get_d_bits}
+use Rattle.chains.specs.Spelling.{length_bits, get_or_bits}
 use Rattle.chains.proofs.reed_muller.unpack.Goals as goal
 
 pub loop-p-preserved : goal.loop-p-preserved
@@ -12,7 +12,7 @@ loop-p-preserved c =
     let within : p < length c.loop-p.cells = omega arith in
     let inside : p < length bits = omega (arith, length_bits n c.args.word) in
     take_more_set c.loop-p.cells p _ within
-    ∙ ap₂ (λ xs x. xs ++ (x ∷ [])) c.loop-p.invariant (c.bit_at.ensures.is ∙ sym (get_d_bits n c.args.word p c.loop-p-test.true))
+    ∙ ap₂ (λ xs x. xs ++ (x ∷ [])) c.loop-p.invariant (c.bit_at.ensures.is ∙ sym (get_or_bits n c.args.word p c.loop-p-test.true))
     ∙ sym (take_more bits p 0 inside)
 
 pub returns : goal.returns

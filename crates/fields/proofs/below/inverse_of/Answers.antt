@@ -8,7 +8,7 @@ pub returns-in_err-inverse : goal.returns-in_err-inverse
 returns-in_err-inverse g c = λ s hc hw ha.
     let f : FieldModel = g.F.Field.model c.args.field.now in
     let laws : FieldLaws f = g.met.F.Field.lawful c.args.field.now s in
-    let x = part_of c.args.width f.width c.args.a c.split-x.result hw ha (c.split-x.ensures.low_value, c.split-x.ensures.low_bound) in
+    let x = part_of c.args.width f.width c.args.a c.split-x.result hw ha (c.split-x.ensures.value, c.split-x.ensures.bounds) in
     let found = inverse_found f laws _ c.in_ok-n.n c.in-Some.i c.in_ok-i.field-0 c.norm.result c.inverse.result
     c.in_ok-n.was (c.norm.ensures s hc x.low_below x.high_below) c.in_ok-i.was (c.inverse.ensures s) c.in-Some.is in
     never c.in_err-inverse.was (c.scaled.ensures s hw found.1 x.low_below x.high_below)
@@ -17,7 +17,7 @@ pub returns : goal.returns
 returns g c = λ s hc hw ha.
     let f : FieldModel = g.F.Field.model c.args.field.now in
     let laws : FieldLaws f = g.met.F.Field.lawful c.args.field.now s in
-    let x = part_of c.args.width f.width c.args.a c.split-x.result hw ha (c.split-x.ensures.low_value, c.split-x.ensures.low_bound) in
+    let x = part_of c.args.width f.width c.args.a c.split-x.result hw ha (c.split-x.ensures.value, c.split-x.ensures.bounds) in
     let found = inverse_found f laws _ c.in_ok-n.n c.in-Some.i c.in_ok-i.field-0 c.norm.result c.inverse.result
     c.in_ok-n.was (c.norm.ensures s hc x.low_below x.high_below) c.in_ok-i.was (c.inverse.ensures s) c.in-Some.is in
     let value = same_value c.in_ok-inverse.was (c.scaled.ensures s hw found.1 x.low_below x.high_below) in

@@ -7,8 +7,8 @@ pub returns : goal.returns
 returns g c = λ s hw ha hb.
     let f : FieldModel = g.F.Field.model c.args.field.now in
     let laws : FieldLaws f = g.met.F.Field.lawful c.args.field.now s in
-    let x = part_of c.args.width f.width c.args.a c.split-x.result hw ha (c.split-x.ensures.low_value, c.split-x.ensures.low_bound) in
-    let y = part_of c.args.width f.width c.args.b c.split-y.result hw hb (c.split-y.ensures.low_value, c.split-y.ensures.low_bound) in
+    let x = part_of c.args.width f.width c.args.a c.split-x.result hw ha (c.split-x.ensures.value, c.split-x.ensures.bounds) in
+    let y = part_of c.args.width f.width c.args.b c.split-y.result hw hb (c.split-y.ensures.value, c.split-y.ensures.bounds) in
     let q : ℕ = size f in
     let wide : 2 ^ c.args.width ≡ q = ap (λ (n : ℕ). 2 ^ n) hw in
     let low : ℕ = c.in_ok-low.low in

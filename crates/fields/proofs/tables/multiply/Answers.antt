@@ -5,22 +5,22 @@ use Rattle.fields.proofs.tables.multiply.Goals as goal
 
 -- both logs stay below one round
 a_below : (c : goal.After-log-2) → c.log.result < 2 ^ c.args.width - 1
-a_below c = rw c.log.ensures (log_below c.args.width c.requires.le_width.0 c.requires.le_width.1 c.args.a c.if-a-eq0.false c.requires.a_bound.0)
+a_below c = rw c.log.ensures (log_below c.args.width c.requires.width_range.0 c.requires.width_range.1 c.args.a c.if-a-eq0.false c.requires.operands.0)
 
 b_below : (c : goal.After-log-2) → c.log-2.result < 2 ^ c.args.width - 1
-b_below c = rw c.log-2.ensures (log_below c.args.width c.requires.le_width.0 c.requires.le_width.1 c.args.b c.if-b-eq0.false c.requires.a_bound.1)
+b_below c = rw c.log-2.ensures (log_below c.args.width c.requires.width_range.0 c.requires.width_range.1 c.args.b c.if-b-eq0.false c.requires.operands.1)
 
 pub returns-then-a-eq0 : goal.returns-then-a-eq0
 returns-then-a-eq0 c =
     sym (⊎_elim (zero_left c.args.width c.args.a c.args.b) (λ h. zero_right c.args.width c.args.a c.args.b h.1) c.then-a-eq0.either)
 
 pub overflow_add-log : goal.overflow_add-log
-overflow_add-log c = let a = a_below c in let b = b_below c in let top = pow_most c.args.width c.requires.le_width.1 in record { fits = omega arith }
+overflow_add-log c = let a = a_below c in let b = b_below c in let top = pow_most c.args.width c.requires.width_range.1 in record { fits = omega arith }
 
 pub antilog-requires : goal.antilog-requires
-antilog-requires c = let a = a_below c in let b = b_below c in record { width_bound = c.requires.le_width.1; i_bound = omega arith }
+antilog-requires c = let a = a_below c in let b = b_below c in record { width_bound = c.requires.width_range.1; i_bound = omega arith }
 
 pub returns : goal.returns
 returns c =
     c.antilog.ensures ∙ ap (antilog c.args.width) (ap₂ ◌+◌ c.log.ensures c.log-2.ensures)
-    ∙ sym (product_by_logs c.args.width c.requires.le_width.0 c.requires.le_width.1 c.args.a c.args.b c.if-a-eq0.false c.if-b-eq0.false c.requires.a_bound.0 c.requires.a_bound.1)
+    ∙ sym (product_by_logs c.args.width c.requires.width_range.0 c.requires.width_range.1 c.args.a c.args.b c.if-a-eq0.false c.if-b-eq0.false c.requires.operands.0 c.requires.operands.1)

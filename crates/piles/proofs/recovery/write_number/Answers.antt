@@ -1,7 +1,7 @@
 use Rattle.std.proofs.Common.{◌<◌, [], ◌∷◌, ◌++◌, length, sym, ◌∙◌, ap₂, arith}
 use Rattle.std.proofs.lemmas.List.{take_more_set, take_more, take_all}
 use Rattle.chains.specs.Bits.{bits_of}
-use Rattle.chains.specs.Spelling.{length_bits, get_d_bits}
+use Rattle.chains.specs.Spelling.{length_bits, get_or_bits}
 use Rattle.piles.proofs.recovery.write_number.Goals as goal
 
 pub loop-k-preserved : goal.loop-k-preserved
@@ -12,7 +12,7 @@ loop-k-preserved c =
     let within : k < length c.loop-k.bits = omega arith in
     let inside : k < length bits = omega (arith, length_bits n c.args.number) in
     take_more_set c.loop-k.bits k _ within
-    ∙ ap₂ (λ xs x. xs ++ (x ∷ [])) c.loop-k.invariant (sym (get_d_bits n c.args.number k c.loop-k-test.true))
+    ∙ ap₂ (λ xs x. xs ++ (x ∷ [])) c.loop-k.invariant (sym (get_or_bits n c.args.number k c.loop-k-test.true))
     ∙ sym (take_more bits k 0 inside)
 
 pub returns : goal.returns

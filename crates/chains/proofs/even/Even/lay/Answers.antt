@@ -3,7 +3,7 @@ use Rattle.std.proofs.lemmas.List.{take_more_set, take_more, take_all, length-se
 use Rattle.chains.specs.Bits.{bits_of, total}
 use Rattle.chains.specs.EvenWords.{two_labels}
 use Rattle.chains.specs.Parity.{total_more, xor_bit}
-use Rattle.chains.specs.Spelling.{length_bits, get_d_bits}
+use Rattle.chains.specs.Spelling.{length_bits, get_or_bits}
 use Rattle.chains.proofs.even.Even.lay.Goals as goal
 
 pub loop-p-init : goal.loop-p-init
@@ -19,7 +19,7 @@ loop-p-preserved c =
     let cells = c.loop-p.cells in
     let firsts = bits_of (n - 1) b in
     let last : c.from-last.result - 1 - 1 - p ≡ n - 1 - 1 - p = omega (arith, c.from-last.ensures) in
-    let bit : b / 2 ^ (c.from-last.result - 1 - 1 - p) % 2 ≡ get_or firsts p 0 = ap (λ k. b / 2 ^ k % 2) last ∙ sym (get_d_bits (n - 1) b p (omega (arith, c.from-last.ensures))) in
+    let bit : b / 2 ^ (c.from-last.result - 1 - 1 - p) % 2 ≡ get_or firsts p 0 = ap (λ k. b / 2 ^ k % 2) last ∙ sym (get_or_bits (n - 1) b p (omega (arith, c.from-last.ensures))) in
     let within : p < length cells = omega (arith, c.from-last.ensures, c.requires.room) in
     let inside : p < length firsts = omega (arith, length_bits (n - 1) b, c.from-last.ensures) in (
       take_more_set cells p _ within ∙ ap₂ (λ xs x. xs ++ (x ∷ [])) c.loop-p.invariant.0 bit ∙ sym (take_more firsts p 0 inside),
