@@ -1,7 +1,7 @@
 #!/usr/bin/env python3
 """Brings this repository's own definitions and lemmas to one spelling: words in snake case, types and facts in camel case.
 
-  python3 tools/respell.py          at the top of the repository, once; prints what falls together and changes nothing then
+  python3 tools/respell.py          at the top of the repository, once, after the scripts of the Rattle that it is brought to; prints names that fall together
 """
 import collections
 import glob
@@ -14,7 +14,7 @@ MADE = re.compile(r"^\s*(goal|given)\.")
 # names that stand after `as`, and parameters of modules and definitions
 BOUND = [
     "the-code", "the-medium", "the-memory", "the-recipe", "the-pile", "the-repetition", "the-polynomial", "the-extension",
-    "harm-of", "score-of", "size-of", "binary-due", "sized-due", "open-widths", "zero-there",
+    "harm-of", "score-of", "binary-due", "sized-due", "open-widths", "zero-there",
     "Sound-chain", "Medium-sound", "Medium-refuses", "Code-sound", "Code-refuses", "Worn-cell",
 ]
 # names of this repository's that port.py took for the library's
