@@ -2,7 +2,7 @@
 use Rattle.words.specs.declared.fault.Fault.{Fault}
 use Rattle.codes.specs.declared.either.Either.{Either}
 use Rattle.codes.specs.declared.either.Either.TheVariants.{Left, Right}
-use Rattle.codes.specs.Model.{CodeModel}
+use Rattle.codes.specs.Model.{CodeModel, Lawful}
 
 abbrev pub either_model : {A B : Type 0} → (A → CodeModel) → (B → CodeModel) → Either A B → CodeModel
 either_model f g (Left a) = f a
@@ -15,3 +15,8 @@ either_sound f g (Right b) = g b
 abbrev pub either_refuses : {A B : Type 0} → (A → Fault → Type 0) → (B → Fault → Type 0) → Either A B → Fault → Type 0
 either_refuses f g (Left a) = f a
 either_refuses f g (Right b) = g b
+
+-- it is lawful where both kinds are
+pub either_lawful : {A B : Type 0} (f : A → CodeModel) (g : B → CodeModel) (sf : A → Type 0) (sg : B → Type 0) → ((a : A) → sf a → Lawful (f a)) → ((b : B) → sg b → Lawful (g b)) → (c : Either A B) → either_sound sf sg c → Lawful (either_model f g c)
+either_lawful f g sf sg left right (Left a) s = left a s
+either_lawful f g sf sg left right (Right b) s = right b s

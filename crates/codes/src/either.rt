@@ -1,6 +1,5 @@
 // A code of one of two types is a code.
-ghost use Rattle.codes.specs.Either.{either_model, either_sound, either_refuses};
-ghost use Rattle.std.proofs.Common.{rules};
+ghost use Rattle.codes.specs.Either.{either_model, either_sound, either_refuses, either_lawful};
 
 use crate::code::Code;
 use words::fault::Fault;
@@ -19,7 +18,7 @@ impl<A: Code, B: Code> Code for Either<A, B> {
 
     ghost refuses = { either_refuses A.Code.refuses B.Code.refuses };
 
-    ghost lawful = { Prim.search rules };
+    ghost lawful = { either_lawful A.Code.model B.Code.model A.Code.sound B.Code.sound A.Code.lawful B.Code.lawful };
 
     fn check(&self) -> Result<(), Fault> {
         match self {

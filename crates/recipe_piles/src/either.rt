@@ -1,6 +1,5 @@
 // A chain of one of two types is a chain.
-ghost use Rattle.recipe_piles.specs.Either.{either_chain, either_sound};
-ghost use Rattle.std.proofs.Common.{rules};
+ghost use Rattle.recipe_piles.specs.Either.{either_chain, either_sound, either_lawful};
 
 use chains::chain::{Chain, Estimate};
 use words::fault::Fault;
@@ -17,7 +16,7 @@ impl<G: Chain, H: Chain> Chain for EitherChain<G, H> {
 
     ghost sound = { either_sound G.Chain.sound H.Chain.sound };
 
-    ghost lawful = { Prim.search rules };
+    ghost lawful = { either_lawful G.Chain.model H.Chain.model G.Chain.sound H.Chain.sound G.Chain.lawful H.Chain.lawful };
 
     fn check(&self) -> Result<(), Fault> {
         match self {
