@@ -1,4 +1,5 @@
 pub mod Against
 pub mod Examples
 pub mod Nearness
+pub mod Sameness
 pub mod Working

@@ -1,5 +1,5 @@
 -- What a call owes once its buffers have passed. Assumes nothing.
-use Rattle.std.proofs.Common.{◌≡◌, ℕ, ◌*◌, ◌%◌, ◌^◌, ◌<◌, ◌≤◌, List, [], ◌∷◌, length, IsErrAnd, None, Ok, Err, Result, sym, refl, ap, ◌∙◌, subst, mod-eq_of_lt, one-mul, arith, pow_mono}
+use Rattle.std.proofs.Common.{◌≡◌, ℕ, ◌^◌, ◌<◌, List, [], ◌∷◌, length, IsErrAnd, None, Ok, Err, Result, sym, refl, subst}
 use Rattle.std.specs.List.{AllByRecursion}
 use Rattle.words.specs.declared.fault.Fault.{Fault}
 use Rattle.words.specs.declared.fault.Kind.TheVariants.{NoCodeword}
@@ -9,16 +9,14 @@ use Rattle.words.specs.Faults.{fault}
 use Rattle.words.specs.Harm.{harm}
 use Rattle.words.proofs.Passes.{fits_from_none}
 use Rattle.words.proofs.Rises.{checked_ok, raised}
+use Rattle.codes.specs.declared.checks.Parameters.{Parameters}
 use Rattle.codes.specs.Model.{CodeModel, Message, Near, Symbols}
+use Rattle.codes.specs.Parameters.{parameters_of}
 use Rattle.codes.specs.Promises.{values_below, written_to, marks_of, Recovered, Corrected, Refused}
 
 -- the refusal of a code that is not sound rises through `?`
 pub unsound_raised : {X : Type 0} (refuses : Fault → Type 0) (r : Result X Fault) {f : Fault} → IsErrAnd r (λ x. x ≡ f) → refuses f → Refused refuses r
 unsound_raised {X} refuses r e h = subst (λ (q : Result X Fault). Refused refuses q) (sym (raised r e)) h
-
--- the number of symbols as the code works it out
-pub shifted : (m : ℕ) → m ≤ 8 → 1 * 2 ^ m % 18446744073709551616 ≡ 2 ^ m
-shifted m h = ap (λ n. n % 18446744073709551616) (one-mul (2 ^ m)) ∙ mod-eq_of_lt (omega (arith, pow_mono {i = m} {j = 8} h))
 
 module _ (c : CodeModel) where
   abbrev pub encode_buffers : ℕ → List ℕ → List ℕ → List Given
@@ -30,15 +28,16 @@ module _ (c : CodeModel) where
   abbrev pub correct_buffers : ℕ → List ℕ → List ℕ → List Given
   correct_buffers s word marks = values_below s c.len word ∷ marks_of c.len marks ∷ []
 
-  module _ (s : ℕ) (is : s ≡ 2 ^ c.width) where
-    pub encode_passes : (message word : List ℕ) {u : Unit {0}} → Ok u ≡ checked (refusal Code (encode_buffers s message word)) → refusal Code (encode_buffers (2 ^ c.width) message word) ≡ None
-    encode_passes message word e = subst (λ (n : ℕ). refusal Code (encode_buffers n message word) ≡ None) is (checked_ok _ e)
+  -- the checks of a call that were made against the parameters of the code
+  module _ {p : Parameters} (is : p ≡ parameters_of c) where
+    pub encode_passes : (message word : List ℕ) {u : Unit {0}} → Ok u ≡ checked (refusal Code (values_below p.symbols p.message_len message ∷ written_to p.len word ∷ [])) → refusal Code (encode_buffers (2 ^ c.width) message word) ≡ None
+    encode_passes message word e = subst (λ (q : Parameters). refusal Code (values_below q.symbols q.message_len message ∷ written_to q.len word ∷ []) ≡ None) is (checked_ok _ e)
 
-    pub message_of_passes : (message word : List ℕ) {u : Unit {0}} → Ok u ≡ checked (refusal Code (message_of_buffers s message word)) → refusal Code (message_of_buffers (2 ^ c.width) message word) ≡ None
-    message_of_passes message word e = subst (λ (n : ℕ). refusal Code (message_of_buffers n message word) ≡ None) is (checked_ok _ e)
+    pub message_of_passes : (message word : List ℕ) {u : Unit {0}} → Ok u ≡ checked (refusal Code (written_to p.message_len message ∷ values_below p.symbols p.len word ∷ [])) → refusal Code (message_of_buffers (2 ^ c.width) message word) ≡ None
+    message_of_passes message word e = subst (λ (q : Parameters). refusal Code (written_to q.message_len message ∷ values_below q.symbols q.len word ∷ []) ≡ None) is (checked_ok _ e)
 
-    pub correct_passes : (word marks : List ℕ) {u : Unit {0}} → Ok u ≡ checked (refusal Code (correct_buffers s word marks)) → refusal Code (correct_buffers (2 ^ c.width) word marks) ≡ None
-    correct_passes word marks e = subst (λ (n : ℕ). refusal Code (correct_buffers n word marks) ≡ None) is (checked_ok _ e)
+    pub correct_passes : (word marks : List ℕ) {u : Unit {0}} → Ok u ≡ checked (refusal Code (values_below p.symbols p.len word ∷ marks_of p.len marks ∷ [])) → refusal Code (correct_buffers (2 ^ c.width) word marks) ≡ None
+    correct_passes word marks e = subst (λ (q : Parameters). refusal Code (values_below q.symbols q.len word ∷ marks_of q.len marks ∷ []) ≡ None) is (checked_ok _ e)
 
   pub message_fits : (message word : List ℕ) → refusal Code (encode_buffers (2 ^ c.width) message word) ≡ None → Message c message × (length word ≡ c.len)
   message_fits message word e = let f = fits_from_none Code (encode_buffers (2 ^ c.width) message word) e in (f.0, f.1.0.0)

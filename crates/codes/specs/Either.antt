@@ -1,7 +1,7 @@
 -- A code of one of two types means what the one that it holds means. Assumes nothing.
 use Rattle.words.specs.declared.fault.Fault.{Fault}
-use Rattle.codes.specs.declared.either.Either.{Either}
-use Rattle.codes.specs.declared.either.Either.TheVariants.{Left, Right}
+use Rattle.either.specs.declared.Either.{Either}
+use Rattle.either.specs.declared.Either.TheVariants.{Left, Right}
 use Rattle.codes.specs.Model.{CodeModel, Lawful}
 
 abbrev pub either_model : {A B : Type 0} → (A → CodeModel) → (B → CodeModel) → Either A B → CodeModel

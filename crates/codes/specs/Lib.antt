@@ -3,6 +3,7 @@ pub mod Examples
 pub mod Kinds
 pub mod Making
 pub mod Model
+pub mod Parameters
 pub mod Promises
-pub mod Simple
 pub mod Repeats
+pub mod Simple

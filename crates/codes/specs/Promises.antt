@@ -6,22 +6,17 @@ use Rattle.words.specs.declared.fault.Fault.{Fault}
 use Rattle.words.specs.declared.fault.Kind.TheVariants.{NoCodeword}
 use Rattle.words.specs.declared.fault.Layer.TheVariants.{Code}
 use Rattle.words.specs.Buffers.{Given, refusal}
+pub use Rattle.words.specs.Buffers.{values_below, written_to}
 use Rattle.words.specs.Faults.{fault}
 use Rattle.words.specs.Harm.{harm}
 use Rattle.codes.specs.Model.{CodeModel, Message, Near}
 
--- a buffer whose values lie below a bound; one that is only written to, whose values are not looked at; and marks
-abbrev pub values_below : ℕ → ℕ → List ℕ → Given
-values_below bound n xs = record { content = xs; wanted = n; below = bound }
-
 abbrev pub symbols_of : CodeModel → ℕ → List ℕ → Given
 symbols_of c n xs = values_below (2 ^ c.width) n xs
 
-abbrev pub written_to : ℕ → List ℕ → Given
-written_to n xs = record { content = xs; wanted = n; below = 256 }
-
+-- marks are 0 or 1
 abbrev pub marks_of : ℕ → List ℕ → Given
-marks_of n xs = record { content = xs; wanted = n; below = 2 }
+marks_of n xs = values_below 2 n xs
 
 -- a call of a code that is not sound refuses as the code says
 abbrev pub Refused : {X : Type 0} → (Fault → Type 0) → Result X Fault → Type 0

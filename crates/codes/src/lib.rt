@@ -3,7 +3,8 @@
 
 pub mod checks;
 pub mod code;
-pub mod either;
 pub mod open;
 pub mod repetition;
+mod sides;
+mod size;
 pub mod worked;

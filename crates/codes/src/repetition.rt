@@ -1,37 +1,44 @@
 // The repetition code: one symbol, N times over.
-ghost use Rattle.std.specs.Prelude.{◌≡◌, ℕ, ◌<◌, ◌≤◌, length, replicate, Ok};
-ghost use Rattle.std.specs.List.{AllByRecursion};
+ghost use Rattle.std.specs.Prelude.{◌≡◌, ℕ, ◌<◌, ◌≤◌, length, replicate, Ok, ◌==◌};
+ghost use Rattle.std.specs.List.{AllByRecursion, list_all};
 ghost use Rattle.words.specs.Harm.{harm as harm_of};
 ghost use Rattle.codes.specs.Kinds.{repetition_code, readable_count, MostFrequent, Counted};
 ghost use Rattle.codes.specs.Making.{InRange, Made};
+ghost use Rattle.codes.specs.Parameters.{parameters_of};
 ghost use Rattle.codes.specs.Repeats.{repetition_lawful};
 
-use crate::checks::{check_correct, check_encode, check_message_of, check_near};
+use crate::checks::{Parameters, check_near};
 use crate::code::Code;
+use crate::size::Size;
 use words::fault::{Fault, Kind, Layer};
 use words::harms::harm;
 
 /// The repetition code of a width and a length: K = 1 and D = N.
 #[derive(Clone, Copy)]
 pub struct Repetition {
-    width: usize,
-    len: usize,
-    ghost some_width: { 1 ≤ width },
-    ghost narrow: { width ≤ 8 },
-    ghost some_places: { 1 ≤ len },
-    ghost short: { len ≤ 4096 },
+    size: Size,
 }
 
 impl Repetition {
     /// Refuses a width outside 1 to 8 and a length outside 1 to 4,096.
     pub fn new(width: usize, len: usize) -> Result<Self, Fault>
-        ensures { Made (InRange width len) (λ c. (c.width ≡ width) × (c.len ≡ len)) result }
+        ensures { Made (InRange width len) (λ c. (c.size.width ≡ width) × (c.size.len ≡ len)) result }
     {
-        if width < 1 || width > 8 || len < 1 || len > 4096 {
-            return Err(Fault::new(Kind::OutsideKind, Layer::Code, 0));
-        }
-        Ok(Repetition { width, len })
+        let size = Size::new(width, len)?;
+        Ok(Repetition { size })
     }
+
+    fn parameters(&self) -> Parameters
+        ensures { result ≡ parameters_of (repetition_code self.now.size.width self.now.size.len) }
+    {
+        self.size.parameters(1)
+    }
+}
+
+fn repeats(word: &[u8], symbol: u8) -> bool
+    ensures { result ≡ list_all (λ x. x == symbol) word.now }
+{
+    word.iter().all(|x| *x == symbol)
 }
 
 // Counts, for each symbol, the readable places that hold it.
@@ -79,25 +86,25 @@ fn harm_against(word: &[u8], marks: &[u8], symbol: u8) -> Result<usize, Fault>
 }
 
 impl Code for Repetition {
-    ghost model = { λ c. repetition_code c.width c.len };
+    ghost model = { λ c. repetition_code c.size.width c.size.len };
 
     ghost sound = { λ _. Unit {0} };
 
     // it always is sound
     ghost refuses = { λ _ _. ⊥ };
 
-    ghost lawful = { λ c s. repetition_lawful c.width c.len ((c.some_width, c.narrow), (c.some_places, c.short)) };
+    ghost lawful = { λ c s. repetition_lawful c.size.width c.size.len ((c.size.some_width, c.size.narrow), (c.size.some_places, c.size.short)) };
 
     fn check(&self) -> Result<(), Fault> {
         Ok(())
     }
 
     fn width(&self) -> usize {
-        self.width
+        self.size.width
     }
 
     fn len(&self) -> usize {
-        self.len
+        self.size.len
     }
 
     fn message_len(&self) -> usize {
@@ -105,32 +112,31 @@ impl Code for Repetition {
     }
 
     fn distance(&self) -> usize {
-        self.len
+        self.size.len
     }
 
     fn encode(&self, message: &[u8], word: &mut [u8]) -> Result<(), Fault> {
-        check_encode(1 << self.width, message, 1, word, self.len)?;
+        self.parameters().check_encode(message, word)?;
         word.fill(message[0]);
         Ok(())
     }
 
     fn message_of(&self, word: &[u8], message: &mut [u8]) -> Result<(), Fault> {
-        check_message_of(1 << self.width, message, 1, word, self.len)?;
+        self.parameters().check_message_of(word, message)?;
         let first = word[0];
-        for symbol in word {
-            if *symbol != first {
-                return Err(Fault::new(Kind::NoCodeword, Layer::Code, 0));
-            }
+        if !repeats(word, first) {
+            return Err(Fault::new(Kind::NoCodeword, Layer::Code, 0));
         }
         message[0] = first;
         Ok(())
     }
 
     fn correct(&self, word: &mut [u8], marks: &[u8]) -> Result<usize, Fault> {
-        check_correct(1 << self.width, word, marks, self.len)?;
-        let symbol = majority(word, marks, 1 << self.width);
+        let parameters = self.parameters();
+        parameters.check_correct(word, marks)?;
+        let symbol = majority(word, marks, parameters.symbols);
         let found = harm_against(word, marks, symbol)?;
-        check_near(found, self.len)?;
+        check_near(found, self.size.len)?;
         word.fill(symbol);
         Ok(found)
     }

@@ -1,39 +1,42 @@
-use Rattle.std.proofs.Common.{◌≡◌, Err, sym, refl, ◌∙◌, subst, arith, take_all}
-use Rattle.std.specs.List.{AllByRecursion}
-use Rattle.std.proofs.ByRecursion.{All-more}
+use Rattle.std.proofs.Common.{◌≡◌, ℕ, ◌<◌, ◌≢◌, length, get_or, Err, sym, refl, ◌∙◌, subst, arith}
+use Rattle.std.proofs.ByRecursion.{All-get_or, All-from_get_or}
+use Rattle.std.proofs.lemmas.Bool.{eqb-true, eqb-false}
 use Rattle.codes.specs.Kinds.{open_code}
 use Rattle.codes.specs.Promises.{Corrected}
 use Rattle.codes.specs.Simple.{blank_harms, no_harm}
-use Rattle.codes.proofs.Working.{shifted, correct_passes, damage_fits, corrected, uncorrected}
+use Rattle.codes.proofs.Working.{correct_passes, damage_fits, corrected, uncorrected}
 use Rattle.codes.proofs.open.OpenCode.correct.Goals as goal
 
-pub loop-mark-preserved : goal.loop-mark-preserved
-loop-mark-preserved c = All-more (λ m. m ≡ 0) c.args.marks.now c.loop-mark.mark-index 0 c.loop-mark-test.true c.loop-mark.invariant c.if-mark-ne0.false
-
-pub returns-then-mark-ne0 : goal.returns-then-mark-ne0
-returns-then-mark-ne0 c =
-    let self = c.args.self.now in
-    let model = open_code self.width self.len in
+pub returns-then-contains : goal.returns-then-contains
+returns-then-contains c =
+    let size = c.args.self.now.size in
+    let model = open_code size.width size.len in
     let word = c.args.word.now in
     let marks = c.args.marks.now in
-    let none = correct_passes model _ (shifted self.width self.narrow) word marks c.in_ok-check_correct.ensures in
+    let none = correct_passes model c.parameters.ensures word marks c.in_ok-check_correct.ensures in
     let fit = damage_fits model word marks none in
+    let blank = c.if-contains.ensures.cases in
+    let set : get_or marks blank.0 0 ≢ 0 = λ e. let one = eqb-true _ _ (blank.2 0) in omega (arith, one, e) in
     record {
       sound = λ _. subst (λ f. Corrected model word marks word (Err f)) (sym c.new.ensures) (uncorrected model word marks 0 none refl
-          (λ u near. let blank = blank_harms word marks u c.loop-mark.mark-index (fit.1.0 ∙ sym fit.0.0) (near.0.0 ∙ sym fit.0.0) c.loop-mark-test.true c.if-mark-ne0.true in omega (arith, blank, near.1)));
+          (λ u near. let harmed = blank_harms word marks u blank.0 (fit.1.0 ∙ sym fit.0.0) (near.0.0 ∙ sym fit.0.0) blank.1 set in omega (arith, harmed, near.1)));
       unsound = λ no. absurd (no tt);
       refused = λ no. absurd (no tt);
     }
 
 pub returns : goal.returns
 returns c =
-    let self = c.args.self.now in
-    let model = open_code self.width self.len in
+    let size = c.args.self.now.size in
+    let model = open_code size.width size.len in
     let word = c.args.word.now in
     let marks = c.args.marks.now in
-    let none = correct_passes model _ (shifted self.width self.narrow) word marks c.in_ok-check_correct.ensures in
+    let none = correct_passes model c.parameters.ensures word marks c.in_ok-check_correct.ensures in
     let fit = damage_fits model word marks none in
-    let clean = no_harm word marks (subst (AllByRecursion (λ m. m ≡ 0)) (take_all _ _ c.loop-mark-test.false) c.loop-mark.invariant) in
+    let unset : (i : ℕ) → i < length marks → get_or marks i 0 ≡ 0 = λ i h.
+    let small = All-get_or (λ m. m < 2) marks i 0 h fit.1.1 in
+    let other = eqb-false _ _ (c.if-contains.ensures.cases i 0 (omega arith) h) in
+    omega (arith, small, other) in
+    let clean = no_harm word marks (All-from_get_or (λ m. m ≡ 0) marks 0 unset) in
     record {
       sound = λ _. corrected model word marks word 0 none word (fit.0, omega (arith, clean)) refl (sym clean);
       unsound = λ no. absurd (no tt);

@@ -1,37 +1,38 @@
 use Rattle.std.proofs.Common.{◌≡◌, ℕ, ◌^◌, ◌<◌, List, [], ◌∷◌, length, get_or, replicate, sym, refl, ap, ◌∙◌, subst, arith}
 use Rattle.words.specs.Harm.{harm}
 use Rattle.words.proofs.Rises.{raised}
+use Rattle.codes.specs.declared.checks.Parameters.{Parameters}
 use Rattle.codes.specs.Kinds.{repetition_code}
 use Rattle.codes.specs.Repeats.{more_is_nearer, first_symbol}
-use Rattle.codes.proofs.Working.{shifted, correct_passes, damage_fits, corrected, uncorrected}
+use Rattle.codes.proofs.Working.{correct_passes, damage_fits, corrected, uncorrected}
 use Rattle.codes.proofs.repetition.RepetitionCode.correct.Goals as goal
 
 pub harm_against-requires : goal.harm_against-requires
 harm_against-requires c =
-    let self = c.args.self.now in
-    let model = repetition_code self.width self.len in
+    let size = c.args.self.now.size in
+    let model = repetition_code size.width size.len in
     let word = c.args.word.now in
     let marks = c.args.marks.now in
-    let none = correct_passes model _ (shifted self.width self.narrow) word marks c.in_ok-check_correct.ensures in
+    let none = correct_passes model c.parameters-parameters.ensures word marks c.in_ok-check_correct.ensures in
     let fit = damage_fits model word marks none in
-    (omega (arith, fit.0.0, self.short), (fit.1.0 ∙ sym fit.0.0, fit.1.1))
+    (omega (arith, fit.0.0, size.short), (fit.1.0 ∙ sym fit.0.0, fit.1.1))
 
 pub returns-in_err-check_near : goal.returns-in_err-check_near
 returns-in_err-check_near c =
-    let self = c.args.self.now in
-    let m = self.width in
-    let n = self.len in
+    let size = c.args.self.now.size in
+    let m = size.width in
+    let n = size.len in
     let model = repetition_code m n in
     let word = c.args.word.now in
     let marks = c.args.marks.now in
-    let none = correct_passes model _ (shifted m self.narrow) word marks c.in_ok-check_correct.ensures in
+    let none = correct_passes model c.parameters-parameters.ensures word marks c.in_ok-check_correct.ensures in
     let fit = damage_fits model word marks none in
     let p = c.majority-symbol.result in
     let f = c.in_ok-found.ensures in
     let found : c.in_ok-found.found ≡ harm word marks (replicate (length word) p) = cc in
     let far : (u : List ℕ) → (length u ≡ 1) → get_or u 0 0 < 2 ^ m → harm word marks (replicate n (get_or u 0 0)) < n → ⊥ = λ u one small near.
     let s = get_or u 0 0 in
-    let fewer = c.majority-symbol.ensures.1 s (subst (λ (k : ℕ). s < k) (sym (shifted m self.narrow)) small) in
+    let fewer = c.majority-symbol.ensures.1 s (subst (λ (k : ℕ). s < k) (sym (ap (λ (p : Parameters). p.symbols) c.parameters-parameters.ensures)) small) in
     let nearer = more_is_nearer p s word marks (fit.1.0 ∙ sym fit.0.0) fewer in
     omega (arith, nearer, found, ap (λ k. harm word marks (replicate k s)) fit.0.0, near, c.in_err-check_near.ensures.0) in
     record {
@@ -42,19 +43,19 @@ returns-in_err-check_near c =
 
 pub returns : goal.returns
 returns c =
-    let self = c.args.self.now in
-    let m = self.width in
-    let n = self.len in
+    let size = c.args.self.now.size in
+    let m = size.width in
+    let n = size.len in
     let model = repetition_code m n in
     let word = c.args.word.now in
     let marks = c.args.marks.now in
-    let none = correct_passes model _ (shifted m self.narrow) word marks c.in_ok-check_correct.ensures in
+    let none = correct_passes model c.parameters-parameters.ensures word marks c.in_ok-check_correct.ensures in
     let fit = damage_fits model word marks none in
     let p = c.majority-symbol.result in
     let f = c.in_ok-found.ensures in
     let found : c.in_ok-found.found ≡ harm word marks (replicate (length word) p) = cc in
     let is : c.in_ok-found.found ≡ harm word marks (replicate n p) = found ∙ ap (λ k. harm word marks (replicate k p)) fit.0.0 in
-    let small : p < 2 ^ m = subst (λ (k : ℕ). p < k) (shifted m self.narrow) c.majority-symbol.ensures.0 in
+    let small : p < 2 ^ m = subst (λ (k : ℕ). p < k) (ap (λ (p : Parameters). p.symbols) c.parameters-parameters.ensures) c.majority-symbol.ensures.0 in
     let filled : c.fill.new.self ≡ replicate n p = c.fill.ensures.after (λ y e. e) ∙ ap (λ k. replicate k p) fit.0.0 in
     record {
       sound = λ _. corrected model word marks c.fill.new.self c.in_ok-found.found none (p ∷ []) ((refl, (small, tt)), omega (arith, is, c.in_ok-check_near.ensures)) filled is;
