@@ -3,90 +3,77 @@ ghost use Rattle.std.specs.Prelude.{IfOk};
 ghost use Rattle.pizqarod.specs.Telling.{Tells};
 
 use crate::hex;
-use recipes::kinds::{ChainKind, CodeKind};
 use recipes::recipe::Recipe;
-use recipes::table::Stage;
 use std::alloc::{AllocError, Global};
+use std::fmt;
 use words::fault::Fault;
 
-/// What a recipe's text comes to.
-#[derive(Drop)]
-pub(crate) enum Told {
-    Accepted(Recipe),
+/// Why a text gives no recipe.
+#[derive(Debug, Drop)]
+pub(crate) enum TextError {
     Refused(Fault),
     NotHexadecimal,
 }
 
+impl fmt::Display for TextError {
+    fn fmt<W: fmt::Write>(&self, f: &mut fmt::Formatter<W>) -> fmt::Result {
+        match self {
+            TextError::Refused(fault) => write!(f, "{fault}"),
+            TextError::NotHexadecimal => f.write_str("not hexadecimal text of whole bytes"),
+        }
+    }
+}
+
 /// Reads a recipe from hexadecimal text.
-pub(crate) fn read_text(heap: Global, text: &str) -> Result<Told, AllocError>
-    ensures { IfOk result (λ told. Tells text.now told) }
+pub(crate) fn read_text(heap: Global, text: &str) -> Result<Result<Recipe, TextError>, AllocError>
+    ensures { IfOk result (Tells text.now) }
 {
     match hex::parse(heap, text)? {
-        None => Ok(Told::NotHexadecimal),
-        Some(bytes) => match Recipe::read(bytes.as_slice()) {
-            Ok(recipe) => Ok(Told::Accepted(recipe)),
-            Err(fault) => Ok(Told::Refused(fault)),
-        },
+        None => Ok(Err(TextError::NotHexadecimal)),
+        Some(bytes) => Ok(Recipe::read(bytes.as_slice()).map_err(TextError::Refused)),
     }
 }
 
-fn code_name(kind: CodeKind) -> &'static str {
-    match kind {
-        CodeKind::Open => "open",
-        CodeKind::ReedSolomon => "Reed-Solomon",
-        CodeKind::Repetition => "repetition",
-        CodeKind::ExtendedReedSolomon => "Reed-Solomon over the extension",
+// A recipe's lines: its chain, a line a stage, and the totals.
+#[derive(Clone, Copy)]
+struct Lines<'a> {
+    recipe: &'a Recipe,
+}
+
+impl fmt::Display for Lines<'_> {
+    fn fmt<W: fmt::Write>(&self, f: &mut fmt::Formatter<W>) -> fmt::Result {
+        let recipe = self.recipe;
+        let chain = recipe.chain();
+        let columns = recipe.columns();
+        writeln!(f, "  chain: {chain}, over {columns} columns")?;
+        writeln!(
+            f,
+            "  stages, as width, inner distance, length, message length, distance:"
+        )?;
+        for (i, stage) in recipe.stages().iter().enumerate() {
+            let number = i.saturating_add(1);
+            writeln!(f, "  stage {number}: {stage}")?;
+        }
+        let cells = recipe.cells();
+        let bits = recipe.message_bits();
+        let bytes = recipe.bytes();
+        let reach = recipe.reach();
+        writeln!(
+            f,
+            "  in all: {cells} cells, {bits} message bits, {bytes} bytes, reach {reach}"
+        )
     }
-}
-
-fn chain_line(heap: Global, recipe: &Recipe) -> Result<String, AllocError> {
-    let columns = recipe.columns();
-    match recipe.chain() {
-        ChainKind::ReedMuller(r) => format!(in heap;
-            "  chain: Reed-Muller with r = {r}, over {columns} columns\n"
-        ),
-        ChainKind::Even(n) => format!(in heap;
-            "  chain: even with n = {n}, over {columns} columns\n"
-        ),
-    }
-}
-
-fn stage_line(heap: Global, number: usize, stage: &Stage) -> Result<String, AllocError> {
-    let width = stage.width;
-    let inner = stage.inner;
-    let len = stage.len;
-    let message_len = stage.message_len;
-    let distance = stage.distance;
-    let name = code_name(stage.kind);
-    format!(in heap; "  stage {number}: {width} {inner} {len} {message_len} {distance} ({name})\n")
-}
-
-fn total_line(heap: Global, recipe: &Recipe) -> Result<String, AllocError> {
-    let cells = recipe.cells();
-    let bits = recipe.message_bits();
-    let bytes = recipe.bytes();
-    let reach = recipe.reach();
-    format!(in heap; "  in all: {cells} cells, {bits} message bits, {bytes} bytes, reach {reach}\n")
-}
-
-fn recipe_lines(heap: Global, recipe: &Recipe, out: &mut String) -> Result<(), AllocError> {
-    out.push_str(chain_line(heap, recipe)?.as_str())?;
-    out.push_str("  stages, as width, inner distance, length, message length, distance:\n")?;
-    for (i, stage) in recipe.stages().iter().enumerate() {
-        out.push_str(stage_line(heap, i.saturating_add(1), stage)?.as_str())?;
-    }
-    out.push_str(total_line(heap, recipe)?.as_str())
 }
 
 /// A recipe's lines, or why there are none.
 pub(crate) fn describe(heap: Global, text: &str) -> Result<String, AllocError> {
-    let mut out = format!(in heap; "recipe {text}\n")?;
     match read_text(heap, text)? {
-        Told::Accepted(recipe) => recipe_lines(heap, &recipe, &mut out)?,
-        Told::Refused(fault) => out.push_str(format!(in heap; "  {fault}\n")?.as_str())?,
-        Told::NotHexadecimal => out.push_str("  not hexadecimal text of whole bytes\n")?,
+        Ok(recipe) => {
+            let lines = Lines { recipe: &recipe };
+            format!(in heap; "recipe {text}\n{lines}")
+        }
+        Err(error) => format!(in heap; "recipe {text}\n  {error}\n"),
     }
-    Ok(out)
 }
 
 #[cfg(test)]

@@ -1,7 +1,8 @@
 // Many recipes side by side, for choosing one.
-use crate::describe::{Told, read_text};
+use crate::describe::read_text;
 use recipes::recipe::Recipe;
 use std::alloc::{AllocError, Global};
+use std::fmt;
 
 // Rows compare by reach, then bytes, and then in the order in which they came.
 #[derive(PartialEq, Eq, PartialOrd, Ord, Drop)]
@@ -12,6 +13,20 @@ struct Row {
     bits: usize,
     cells: usize,
     text: String,
+}
+
+impl fmt::Display for Row {
+    fn fmt<W: fmt::Write>(&self, f: &mut fmt::Formatter<W>) -> fmt::Result {
+        let Row {
+            reach,
+            bytes,
+            line: _,
+            bits,
+            cells,
+            text,
+        } = self;
+        write!(f, "{reach:>5}  {bytes:>5}  {bits:>5}  {cells:>5}  {text}")
+    }
 }
 
 #[derive(Drop)]
@@ -50,13 +65,10 @@ impl Survey {
             return Ok(());
         }
         match read_text(heap, text)? {
-            Told::Accepted(recipe) => self.add(heap, text, &recipe),
-            Told::Refused(fault) => self
+            Ok(recipe) => self.add(heap, text, &recipe),
+            Err(error) => self
                 .refused
-                .push_str(format!(in heap; "{text}: {fault}\n")?.as_str()),
-            Told::NotHexadecimal => self.refused.push_str(format!(in heap;
-                "{text}: not hexadecimal text of whole bytes\n"
-            )?.as_str()),
+                .push_str(format!(in heap; "{text}: {error}\n")?.as_str()),
         }
     }
 
@@ -65,17 +77,7 @@ impl Survey {
         self.rows.sort()?;
         let mut out = String::from_str(heap, "reach  bytes   bits  cells  recipe\n")?;
         for row in self.rows.iter() {
-            let Row {
-                reach,
-                bytes,
-                line: _,
-                bits,
-                cells,
-                text,
-            } = row;
-            out.push_str(format!(in heap;
-                "{reach:>5}  {bytes:>5}  {bits:>5}  {cells:>5}  {text}\n"
-            )?.as_str())?;
+            out.push_str(format!(in heap; "{row}\n")?.as_str())?;
         }
         out.push_str(self.refused.as_str())?;
         Ok(out)

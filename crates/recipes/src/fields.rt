@@ -10,9 +10,7 @@ ghost use Rattle.recipes.specs.Rules.{first_broken, chain_rules, stage_rules, ki
 
 use crate::kinds::{ChainKind, CodeKind};
 use words::fault::{Fault, Kind, Layer};
-
-/// The most cells that a page has.
-pub const MOST_CELLS: usize = 4096;
+use words::limits::MOST_CELLS;
 
 fn refused(kind: Kind, place: usize) -> Fault
     ensures { result ≡ fault kind the_recipe place }

@@ -3,6 +3,8 @@ ghost use Rattle.std.specs.Prelude.{◌≡◌, ◌<◌, ◌≤◌, Bool};
 ghost use Rattle.recipes.specs.Chains.{Known, chain_named, cells_of, stages_of, width_at, distance_at};
 ghost use Rattle.recipes.specs.Codes.{code_named, fits_kind, outer_distance};
 
+use std::fmt;
+
 /// The chain (the inner code and its partition) that a recipe names.
 #[derive(Clone, Copy, PartialEq, Eq, Debug)]
 pub enum ChainKind {
@@ -22,10 +24,34 @@ pub enum CodeKind {
     ExtendedReedSolomon,
 }
 
-// Row r of Pascal's triangle, for r up to 4.
-const CHOICES: [u8; 25] = [
-    1, 0, 0, 0, 0, 1, 1, 0, 0, 0, 1, 2, 1, 0, 0, 1, 3, 3, 1, 0, 1, 4, 6, 4, 1,
+// Pascal's triangle: how many sets of i there are among r things, at row r.
+const CHOICES: [[u8; 5]; 5] = [
+    [1, 0, 0, 0, 0],
+    [1, 1, 0, 0, 0],
+    [1, 2, 1, 0, 0],
+    [1, 3, 3, 1, 0],
+    [1, 4, 6, 4, 1],
 ];
+
+impl fmt::Display for ChainKind {
+    fn fmt<W: fmt::Write>(&self, f: &mut fmt::Formatter<W>) -> fmt::Result {
+        match self {
+            ChainKind::ReedMuller(r) => write!(f, "Reed-Muller with r = {r}"),
+            ChainKind::Even(n) => write!(f, "even with n = {n}"),
+        }
+    }
+}
+
+impl fmt::Display for CodeKind {
+    fn fmt<W: fmt::Write>(&self, f: &mut fmt::Formatter<W>) -> fmt::Result {
+        f.write_str(match self {
+            CodeKind::Open => "open",
+            CodeKind::ReedSolomon => "Reed-Solomon",
+            CodeKind::Repetition => "repetition",
+            CodeKind::ExtendedReedSolomon => "Reed-Solomon over the extension",
+        })
+    }
+}
 
 impl ChainKind {
     /// The chain that a recipe's first byte names.
@@ -65,7 +91,7 @@ impl ChainKind {
         ensures { result ≡ width_at self i }
     {
         match self {
-            ChainKind::ReedMuller(r) => usize::from(CHOICES[5 * usize::from(r) + i]),
+            ChainKind::ReedMuller(r) => usize::from(CHOICES[usize::from(r)][i]),
             ChainKind::Even(n) => { if i == 0 { 1 } else { usize::from(n) - 1 } }
         }
     }

@@ -1,10 +1,10 @@
 // A recipe that was read: always the table of a pile that can be made.
 ghost use Rattle.std.specs.Prelude.{◌≡◌, ◌/◌, ◌<◌, ◌≤◌, min, map, length, Some, None, sum_by, MatchResult};
-ghost use Rattle.std.specs.List.{AllByRecursion};
+ghost use Rattle.std.specs.List.{AllByRecursion, reduce};
 ghost use Rattle.recipes.specs.Chains.{stages_of};
 ghost use Rattle.recipes.specs.Meaning.{Lawful, Describes};
 ghost use Rattle.recipes.specs.Rules.{Headed, SingleMeaning, first_broken, rules_from, recipe_refusal};
-ghost use Rattle.recipes.specs.Totals.{Bounded, used_stages, page_cells, stage_bits, message_bits, stage_reach, smallest, reach_of};
+ghost use Rattle.recipes.specs.Totals.{Bounded, used_stages, page_cells, stage_bits, message_bits, stage_reach, reach_of};
 
 use crate::fields::{check_end, read_chain, read_columns, read_stage};
 use crate::kinds::ChainKind;
@@ -32,47 +32,18 @@ fn read_table(bytes: &[u8], chain: ChainKind, columns: usize) -> Result<Table, F
     Ok(table)
 }
 
-fn bits_of(stage: &Stage) -> usize
-    requires { Bounded stage.now }
-    ensures value { result ≡ stage_bits stage.now }
-    ensures bound { result ≤ 32768 }
-{
-    stage.message_len * stage.width
-}
-
-fn reach_of(stage: &Stage) -> usize
-    requires { Bounded stage.now }
-    ensures { result ≡ stage_reach stage.now }
-{
-    stage.inner * stage.distance
-}
-
-fn lesser(a: usize, b: usize) -> usize
-    ensures { result ≡ min a b }
-{
-    if a < b { a } else { b }
-}
-
 fn sum_bits(stages: &[Stage]) -> usize
     requires { (AllByRecursion Bounded stages.now) × (length stages.now ≤ 5) }
     ensures { result ≡ sum_by stage_bits stages.now }
 {
-    let mut bits = 0;
-    for stage in stages {
-        bits += bits_of(stage);
-    }
-    bits
+    stages.iter().map(|stage| stage.bits()).sum()
 }
 
-fn least_reach(stages: &[Stage]) -> usize
-    requires { (AllByRecursion Bounded stages.now) × (0 < length stages.now) }
-    ensures { result ≡ smallest (map stage_reach stages.now) }
+fn least_reach(stages: &[Stage]) -> Option<usize>
+    requires { AllByRecursion Bounded stages.now }
+    ensures { result ≡ reduce min (map stage_reach stages.now) }
 {
-    let mut reach = reach_of(&stages[0]);
-    for stage in stages {
-        reach = lesser(reach, reach_of(stage));
-    }
-    reach
+    stages.iter().map(|stage| stage.reach()).min()
 }
 
 impl Recipe {
@@ -135,6 +106,6 @@ impl Recipe {
     pub fn reach(&self) -> usize
         ensures { result ≡ reach_of self.now.table }
     {
-        least_reach(self.stages())
+        least_reach(self.stages()).unwrap_or(0)
     }
 }

@@ -2,11 +2,11 @@
 ghost use Rattle.std.specs.Prelude.{◌≡◌, ◌<◌, ◌≤◌, replicate, slice_set};
 ghost use Rattle.recipes.specs.Chains.{Known, stages_of};
 ghost use Rattle.recipes.specs.Stages.{stage_of, blank};
+ghost use Rattle.recipes.specs.Totals.{Bounded, stage_bits, stage_reach};
 
 use crate::kinds::{ChainKind, CodeKind};
-
-/// The most stages that a chain has.
-pub const MOST_STAGES: usize = 5;
+use std::fmt;
+use words::limits::MOST_STAGES;
 
 /// One stage: its outer code, and the inner distance that the chain gives it.
 #[derive(Clone, Copy, PartialEq, Eq, Debug)]
@@ -24,6 +24,20 @@ pub struct Stage {
     pub distance: usize,
 }
 
+impl fmt::Display for Stage {
+    fn fmt<W: fmt::Write>(&self, f: &mut fmt::Formatter<W>) -> fmt::Result {
+        let Stage {
+            kind,
+            width,
+            inner,
+            len,
+            message_len,
+            distance,
+        } = self;
+        write!(f, "{width} {inner} {len} {message_len} {distance} ({kind})")
+    }
+}
+
 impl Stage {
     // The record of a stage that the chain does not have.
     fn blank() -> Self
@@ -37,6 +51,23 @@ impl Stage {
             message_len: 0,
             distance: 0,
         }
+    }
+
+    /// The bits of the stage's message.
+    pub(crate) fn bits(&self) -> usize
+        requires { Bounded self.now }
+        ensures value { result ≡ stage_bits self.now }
+        ensures bound { result ≤ 32768 }
+    {
+        self.message_len * self.width
+    }
+
+    /// The inner times the outer distance.
+    pub(crate) fn reach(&self) -> usize
+        requires { Bounded self.now }
+        ensures { result ≡ stage_reach self.now }
+    {
+        self.inner * self.distance
     }
 
     fn fill(
@@ -64,7 +95,7 @@ impl Stage {
 pub struct Table {
     pub chain: ChainKind,
     pub columns: usize,
-    pub stages: [Stage; 5],
+    pub stages: [Stage; MOST_STAGES],
 }
 
 impl Table {
@@ -74,7 +105,7 @@ impl Table {
         Table {
             chain,
             columns,
-            stages: [Stage::blank(); 5],
+            stages: [Stage::blank(); MOST_STAGES],
         }
     }
 

@@ -1,17 +1,12 @@
-use Rattle.std.proofs.Common.{sum_by, ap, ◌∙◌, arith, take_all}
+use Rattle.std.proofs.Common.{ℕ, ◌<◌, length, get_or}
 use Rattle.std.proofs.ByRecursion.{All-get_or}
-use Rattle.std.proofs.lemmas.List.Sums.{sum_by_more}
-use Rattle.recipes.specs.Stages.{blank}
-use Rattle.recipes.specs.Totals.{Bounded, stage_bits}
+use Rattle.std.proofs.iter.Serving.{serving}
+use Rattle.recipes.specs.declared.table.Stage.{Stage}
+use Rattle.recipes.specs.Totals.{Bounded}
 use Rattle.recipes.proofs.recipe.sum_bits.Goals as goal
 
-pub bits_of-bits-requires : goal.bits_of-bits-requires
-bits_of-bits-requires c = All-get_or Bounded c.args.stages.now c.loop-stage.stage-index blank c.loop-stage-test.true c.requires.0
-
-pub loop-stage-preserved : goal.loop-stage-preserved
-loop-stage-preserved c =
-    let more = sum_by_more stage_bits c.args.stages.now c.loop-stage.stage-index blank c.loop-stage-test.true in
-    (omega arith, omega (arith, more))
-
-pub returns : goal.returns
-returns c = c.loop-stage.invariant.1 ∙ ap (sum_by stage_bits) (take_all _ _ c.loop-stage-test.false)
+pub sum-requires-clause-can : goal.sum-requires-clause-can
+sum-requires-clause-can c =
+    let stages = c.args.stages.now in
+    let each : (k : ℕ) (d : Stage) → k < length stages → Bounded (get_or stages k d) = λ k d h. All-get_or Bounded stages k d h c.requires.0 in
+    grind (serving, each)

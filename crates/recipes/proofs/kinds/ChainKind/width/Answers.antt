@@ -1,4 +1,4 @@
-use Rattle.std.proofs.Common.{◌+◌, ◌*◌, ◌<◌, get_or, sym, ap, ◌∙◌, subst, arith}
+use Rattle.std.proofs.Common.{◌<◌, get_or, sym, ap, ◌∙◌, subst, arith}
 use Rattle.recipes.specs.declared.kinds.ChainKind.{ChainKind}
 use Rattle.recipes.specs.declared.kinds.ChainKind.TheVariants.{ReedMuller}
 use Rattle.recipes.specs.Chains.{Known, stages_of, width_at}
@@ -13,6 +13,6 @@ returns-in-ReedMuller c =
     let known : Known (ReedMuller r) = subst Known is c.requires.0 in
     let stage : i < stages_of (ReedMuller r) = subst (λ (h : ChainKind). i < stages_of h) is c.requires.1 in
     c.from-in-ReedMuller.ensures
-    ∙ ap (λ k. get_or rows (5 * k + i) 0) c.from.ensures
-    ∙ rows_right r i (omega arith) (omega arith)
+    ∙ ap (λ k. get_or (get_or rows k _) i 0) c.from.ensures
+    ∙ rows_right r i _ (omega arith) (omega arith)
     ∙ ap (λ h. width_at h i) (sym is)
