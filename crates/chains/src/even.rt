@@ -8,7 +8,7 @@ ghost use Rattle.chains.specs.Refusals.{outside, RowFits};
 ghost use Rattle.chains.specs.EvenWords.{even_lawful};
 
 use crate::chain::{Chain, Estimate};
-use crate::checks::{check_reading, check_row, check_stage};
+use crate::checks::{Frame, check_stage};
 use words::fault::{Fault, Kind, Layer};
 
 /// All words of n cells, from 2 to 9: two stages, of distance 1 and 2.
@@ -160,7 +160,11 @@ impl Chain for Even {
     }
 
     fn word_of(&self, labels: &[u8], cells: &mut [u8]) -> Result<(), Fault> {
-        check_row(usize::from(self.n), &self.widths(), labels, cells)?;
+        let frame = Frame {
+            breadth: usize::from(self.n),
+            widths: &self.widths(),
+        };
+        frame.check_row(labels, cells)?;
         self.lay(labels, cells);
         Ok(())
     }
@@ -172,14 +176,11 @@ impl Chain for Even {
         cells: &[u8],
         marks: &[u8],
     ) -> Result<Option<Estimate>, Fault> {
-        check_reading(
-            usize::from(self.n),
-            &self.widths(),
-            stage,
-            labels,
-            cells,
-            marks,
-        )?;
+        let frame = Frame {
+            breadth: usize::from(self.n),
+            widths: &self.widths(),
+        };
+        frame.check_reading(stage, labels, cells, marks)?;
         if stage == 1 {
             Ok(self.estimate_first(cells, marks))
         } else {

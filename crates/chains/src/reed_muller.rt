@@ -10,7 +10,7 @@ ghost use Rattle.chains.specs.Votes.{column, columns, turned, laid, settled, ele
 ghost use Rattle.chains.specs.MullerLaw.{muller_lawful};
 
 use crate::chain::{Chain, Estimate};
-use crate::checks::{check_reading, check_row, check_stage};
+use crate::checks::{Frame, check_stage};
 use crate::tables::{number, subsets, widths};
 use words::fault::{Fault, Kind, Layer};
 
@@ -37,6 +37,16 @@ impl ReedMuller {
         ensures { result ≡ 2 ^ self.now.r }
     {
         1 << self.r
+    }
+
+    fn frame(&self) -> Frame<'static>
+        ensures breadth { result.breadth ≡ 2 ^ self.now.r }
+        ensures widths { result.widths.now ≡ muller_widths self.now.r }
+    {
+        Frame {
+            breadth: self.cells(),
+            widths: widths(self.r),
+        }
     }
 
     // The word with the cells of the bit at place t turned, where the bit is 1.
@@ -264,7 +274,7 @@ impl Chain for ReedMuller {
     }
 
     fn word_of(&self, labels: &[u8], cells: &mut [u8]) -> Result<(), Fault> {
-        check_row(self.cells(), widths(self.r), labels, cells)?;
+        self.frame().check_row(labels, cells)?;
         let row = self.join(labels);
         unpack(self.take_off(row.bits, row.count, 0), cells);
         Ok(())
@@ -277,7 +287,7 @@ impl Chain for ReedMuller {
         cells: &[u8],
         marks: &[u8],
     ) -> Result<Option<Estimate>, Fault> {
-        check_reading(self.cells(), widths(self.r), stage, labels, cells, marks)?;
+        self.frame().check_reading(stage, labels, cells, marks)?;
         Ok(self.nearest(stage, labels, cells, marks))
     }
 }
