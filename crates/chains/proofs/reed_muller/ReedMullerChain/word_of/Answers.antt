@@ -29,13 +29,6 @@ join-row-requires c =
     let fits = row_fits (2 ^ r) (r + 1) (at_stage (muller_widths r)) c.args.labels.now c.args.cells.now (row_passed c.args.labels.now c.args.cells.now c.frame.ensures.breadth c.frame.ensures.widths stages c.in_ok-check_row.ensures) in
     (omega (arith, fits.many), fits.each)
 
-pub unpack-requires : goal.unpack-requires
-unpack-requires c =
-    let r = c.args.self.now.r in
-    let sizes = muller_sizes r c.args.self.now.range in
-    let fits = row_fits (2 ^ r) (r + 1) (at_stage (muller_widths r)) c.args.labels.now c.args.cells.now (row_passed c.args.labels.now c.args.cells.now c.frame.ensures.breadth c.frame.ensures.widths sizes.stages c.in_ok-check_row.ensures) in
-    omega (arith, fits.room, sizes.few_cells)
-
 pub returns : goal.returns
 returns c =
     let r = c.args.self.now.r in
@@ -44,8 +37,8 @@ returns c =
     let stages = (muller_sizes r c.args.self.now.range).stages in
     let due = row_passed labels cells c.frame.ensures.breadth c.frame.ensures.widths stages c.in_ok-check_row.ensures in
     let fits = row_fits (2 ^ r) (r + 1) (at_stage (muller_widths r)) labels cells due in
-    let word : c.unpack.new.cells ≡ muller_word r labels =
-    c.unpack.ensures
+    let word : c.write_bits.new.bits ≡ muller_word r labels =
+    c.write_bits.ensures
     ∙ ap (λ k. bits_of k c.take_off.result) fits.room
     ∙ c.take_off.ensures.is
     ∙ ap₂ (laid (columns r)) c.join-row.ensures.bits (bits_none (2 ^ r))
