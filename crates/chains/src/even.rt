@@ -26,7 +26,7 @@ impl Even {
         ensures meaning { EvenRange n → EvenMeaning n }
     {
         meaning_stands(n);
-        if 2 <= n && n <= 9 {
+        if (2..=9).contains(&n) {
             Ok(Even { n })
         } else {
             Err(Fault::new(Kind::OutsideKind, Layer::Chain, 0))

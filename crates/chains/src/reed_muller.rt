@@ -27,7 +27,7 @@ impl ReedMuller {
     pub fn new(r: u8) -> Result<Self, Fault>
         ensures { MatchResult result (λ h. (h.r ≡ r) × MullerRange r) (λ f. (MullerRange r → ⊥) × (f ≡ outside)) }
     {
-        if 1 <= r && r <= 4 {
+        if (1..=4).contains(&r) {
             Ok(ReedMuller { r: usize::from(r) })
         } else {
             Err(Fault::new(Kind::OutsideKind, Layer::Chain, 0))
