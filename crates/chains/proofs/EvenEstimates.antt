@@ -25,12 +25,6 @@ filled_cells n flip (c ∷ cells) (m ∷ marks) fc fm =
     let rest = filled_cells (length cells) flip cells marks (refl, fc.1.1) (omega (arith, fc.0, fm.0), fm.1.1) in
     (ap suc rest.0 ∙ fc.0, (fill_small flip c m fc.1.0, rest.1))
 
-pub get_or_filled : (flip : ℕ) (cells marks : List ℕ) (p : ℕ) → p < length cells → p < length marks → get_or (filled flip cells marks) p 0 ≡ filled_at flip (get_or cells p 0) (get_or marks p 0)
-get_or_filled flip [] marks p hc hm = absurd (omega arith)
-get_or_filled flip (c ∷ cells) [] p hc hm = absurd (omega arith)
-get_or_filled flip (c ∷ cells) (m ∷ marks) zero hc hm = refl
-get_or_filled flip (c ∷ cells) (m ∷ marks) (suc p) hc hm = get_or_filled flip cells marks p (omega arith) (omega arith)
-
 -- each blank turns the exclusive or where flip is 1
 turned_at : (flip cell mark : ℕ) → flip < 2 → mark < 2 → filled_at flip cell mark % 2 ≡ (cell + cond (eqb flip 0) 0 mark) % 2
 turned_at flip cell zero hf hm = elim (eqb flip 0) as (λ t. cell % 2 ≡ (cell + cond t 0 0) % 2) [ true ↦ omega arith | false ↦ omega arith ]

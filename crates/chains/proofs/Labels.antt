@@ -1,9 +1,7 @@
 -- One step of the scan for the first label that is too large. Assumes nothing.
 use Rattle.std.proofs.Common.{◌≡◌, ℕ, suc, ◌+◌, ◌-◌, ◌*◌, ◌%◌, ◌^◌, ◌<◌, ◌≤◌, cond, List, length, get_or, drop, Some, None, sym, ap, ◌∙◌, add-one, arith, le-ltb, lt-ltb}
 use Rattle.std.proofs.lemmas.Nat.{one_shl}
-use Rattle.std.proofs.ByRecursion.{All-get_or}
 use Rattle.std.proofs.lemmas.List.{at_drop_more, at_drop_all}
-use Rattle.std.specs.List.{AllByRecursion}
 use Rattle.words.specs.declared.fault.Kind.TheVariants.{TooLarge}
 use Rattle.words.specs.declared.fault.Layer.TheVariants.{Chain}
 use Rattle.words.specs.Faults.{fault}
@@ -26,8 +24,7 @@ module _ (width : ℕ → ℕ) (xs : List ℕ) (i : ℕ) where
   label_none h = at_drop_all (large_label width i) xs i h
 
 -- the bound as a program shifts it, at the index of a label
-pub bound_at : (widths : List ℕ) (i : ℕ) → AllByRecursion (λ w. w ≤ 8) widths → i < length widths → (1 * 2 ^ get_or widths i 0) % 65536 ≡ 2 ^ at_stage widths (suc i)
-bound_at widths i narrow h =
-    let few = All-get_or (λ w. w ≤ 8) widths i 0 h narrow in
+pub bound_at : (widths : List ℕ) (i : ℕ) → get_or widths i 0 ≤ 8 → (1 * 2 ^ get_or widths i 0) % 65536 ≡ 2 ^ at_stage widths (suc i)
+bound_at widths i few =
     let index : i ≡ suc i - 1 = omega arith in
     one_shl (get_or widths i 0) 16 (omega (arith, few)) ∙ ap (λ k. 2 ^ get_or widths k 0) index

@@ -1,4 +1,5 @@
 pub mod Due
+pub mod EvenBits
 pub mod EvenEstimates
 pub mod Labels
 pub mod Masks
@@ -6,3 +7,4 @@ pub mod MullerEstimates
 pub mod MullerExamples
 pub mod MullerSteps
 pub mod MullerTables
+pub mod Sums

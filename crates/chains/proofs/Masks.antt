@@ -1,13 +1,21 @@
 -- Words as numbers: what a program's bitwise operations do to their rows of bits. Assumes nothing.
-use Rattle.std.proofs.Common.{◌≡◌, ℕ, zero, suc, ◌+◌, ◌*◌, ◌/◌, ◌%◌, ◌^◌, ◌<◌, min, max, cond, eqb, List, [], ◌∷◌, length, sym, refl, ap, ◌∙◌, subst, ap₂, lt_of_le_of_lt, mod-lt, mod-eq_of_lt, arith, pow_pos, shr_lt}
+use Rattle.std.proofs.Common.{◌≡◌, ℕ, zero, suc, ◌+◌, ◌*◌, ◌/◌, ◌%◌, ◌^◌, ◌<◌, ◌≤◌, min, max, cond, eqb, List, [], ◌∷◌, length, sym, refl, ap, ◌∙◌, subst, ap₂, lt_of_le_of_lt, mod-lt, mod-eq_of_lt, arith, pow_mono, pow_pos, shr_lt}
 use native.Mathlib.Nat.{zero-div}
 use lib.Bits.{bit_and, bit_or, bit_xor, and_shr, or_shr, xor_shr, and_mod, or_mod, xor_mod, and_le_r, or_lt}
 use lib.Count.{ones, ones_in, ones_cat}
 use lib.Pow.{split}
 use Rattle.chains.specs.Bits.{bits_of, spelled, total}
+use Rattle.chains.specs.Model.{Cells}
 use Rattle.chains.specs.Votes.{meet, added, left_harm}
 use Rattle.chains.specs.Parity.{xor_bit}
-use Rattle.chains.specs.Spelling.{same_bits, spelled_bits}
+use Rattle.chains.specs.Spelling.{same_bits, spelled_bits, spelled_small, bits_spelled}
+
+-- cells, or their marks, as one number
+pub packed : (n r : ℕ) (cells : List ℕ) → n ≤ 16 → Cells n cells → r ≡ spelled cells % 65536 → (bits_of n r ≡ cells) × (r < 2 ^ n)
+packed n r cells few fc e =
+    let small = subst (λ (k : ℕ). spelled cells < 2 ^ k) fc.0 (spelled_small cells fc.1) in
+    let whole : r ≡ spelled cells = e ∙ mod-eq_of_lt (omega (arith, small, pow_mono {i = n} {j = 16} few)) in
+    (ap₂ bits_of (sym fc.0) whole ∙ bits_spelled cells fc.1, subst (λ (x : ℕ). x < 2 ^ n) (sym whole) small)
 
 and_bit : (x y : ℕ) → x < 2 → y < 2 → bit_and x y ≡ min y x
 and_bit zero zero hx hy = refl

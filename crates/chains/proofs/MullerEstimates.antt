@@ -24,9 +24,9 @@ pub record Worked (r : ℕ) (labels cells marks : List ℕ) : Type 0 where
   pub rest : ℕ
   pub count_is : count ≡ length (row_bits (muller_widths r) labels)
   pub bits_are : bits_of count bits ≡ row_bits (muller_widths r) labels
-  pub word_is : bits_of (length cells) word ≡ cells
-  pub blank_is : bits_of (length marks) blank ≡ marks
-  pub blank_small : blank < 2 ^ length marks
+  pub word_is : bits_of (2 ^ r) word ≡ cells
+  pub blank_is : bits_of (2 ^ r) blank ≡ marks
+  pub blank_small : blank < 2 ^ 2 ^ r
   pub begun_is : bits_of (2 ^ r) begun ≡ laid (columns r) (bits_of count bits) (bits_of (2 ^ r) word)
   pub settled_is : settled_bits ≡ spelled (settled (drop count (columns r)) (bits_of (2 ^ r) begun) (bits_of (2 ^ r) blank))
   pub rest_is : bits_of (2 ^ r) rest ≡ laid (drop count (columns r)) (settled (drop count (columns r)) (bits_of (2 ^ r) begun) (bits_of (2 ^ r) blank)) (bits_of (2 ^ r) begun)
@@ -35,28 +35,21 @@ pub record Worked (r : ℕ) (labels cells marks : List ℕ) : Type 0 where
 module _ (r : ℕ) (range : MullerRange r) (i : ℕ) (labels cells marks : List ℕ) (fits : ReadingFits (2 ^ r) (r + 1) (at_stage (muller_widths r)) i labels cells marks) where
   -- the numbers that the program works with are those of the lists
   module _ (w : Worked r labels cells marks) where
-    word_there : bits_of (2 ^ r) w.word ≡ cells
-    word_there = ap (λ k. bits_of k w.word) (sym fits.cells_fit.0) ∙ w.word_is
-
-    marks_there : bits_of (2 ^ r) w.blank ≡ marks
-    marks_there = ap (λ k. bits_of k w.blank) (sym fits.marks_fit.0) ∙ w.blank_is
-
     begun_there : bits_of (2 ^ r) w.begun ≡ laid (columns r) (decided_bits r labels) cells
-    begun_there = w.begun_is ∙ ap₂ (laid (columns r)) w.bits_are word_there
+    begun_there = w.begun_is ∙ ap₂ (laid (columns r)) w.bits_are w.word_is
 
     found_there : settled (drop w.count (columns r)) (bits_of (2 ^ r) w.begun) (bits_of (2 ^ r) w.blank) ≡ found_bits r labels cells marks
-    found_there = λ k. settled (drop (w.count_is k) (columns r)) (begun_there k) (marks_there k)
+    found_there = λ k. settled (drop (w.count_is k) (columns r)) (begun_there k) (w.blank_is k)
 
     pub worked_bits : w.settled_bits ≡ spelled (found_bits r labels cells marks)
     worked_bits = w.settled_is ∙ ap spelled found_there
 
     pub worked_harm : (harm : ℕ) → harm + ones w.blank ≡ 2 * ones (bit_or w.rest w.blank) → harm ≡ found_harm r labels cells marks
     worked_harm harm e =
-        let small = subst (λ (k : ℕ). w.blank < 2 ^ k) fits.marks_fit.0 w.blank_small in
-        let sum = harm_ones (2 ^ r) w.rest w.blank w.rest_small small in
+        let sum = harm_ones (2 ^ r) w.rest w.blank w.rest_small w.blank_small in
         let here : harm ≡ left_harm (bits_of (2 ^ r) w.rest) (bits_of (2 ^ r) w.blank) = omega (arith, e, sum) in
         let left : bits_of (2 ^ r) w.rest ≡ laid (drop (length (decided_bits r labels)) (columns r)) (found_bits r labels cells marks) (laid (columns r) (decided_bits r labels) cells) = w.rest_is ∙ (λ k. laid (drop (w.count_is k) (columns r)) (found_there k) (begun_there k)) in
-        here ∙ ap₂ left_harm left marks_there
+        here ∙ ap₂ left_harm left w.blank_is
 
   -- the label stands at the head of the bits that were found
   module _ (count bits : ℕ) (count_is : count ≡ length (decided_bits r labels)) (bits_are : bits ≡ spelled (found_bits r labels cells marks)) where

@@ -1,14 +1,15 @@
 // The chain of all words of n cells: first whether the number of ones is odd, then which word it is.
 ghost use Rattle.std.specs.Prelude.{◌≡◌, ◌-◌, ◌<◌, ◌≤◌, [], ◌∷◌, length, take, MatchResult};
 ghost use Rattle.chains.specs.Bits.{spelled, total, parity};
-ghost use Rattle.chains.specs.Even.{EvenRange, EvenMeaning, even_widths, even_word, even_chain, filled_at, filled};
+ghost use Rattle.chains.specs.Even.{EvenRange, EvenMeaning, even_widths, even_word, even_chain, filled};
 ghost use Rattle.chains.specs.Model.{Cells, at_stage};
 ghost use Rattle.chains.specs.Promises.{Estimates};
 ghost use Rattle.chains.specs.Refusals.{outside, RowFits};
 ghost use Rattle.chains.specs.EvenWords.{even_lawful};
 
 use crate::chain::{Chain, Estimate};
-use crate::checks::{check_reading, check_row, check_stage};
+use crate::checks::{Frame, check_stage};
+use words::bits::{spell, write_bits};
 use words::fault::{Fault, Kind, Layer};
 
 /// All words of n cells, from 2 to 9: two stages, of distance 1 and 2.
@@ -25,7 +26,7 @@ impl Even {
         ensures meaning { EvenRange n → EvenMeaning n }
     {
         meaning_stands(n);
-        if 2 <= n && n <= 9 {
+        if (2..=9).contains(&n) {
             Ok(Even { n })
         } else {
             Err(Fault::new(Kind::OutsideKind, Layer::Chain, 0))
@@ -44,25 +45,29 @@ impl Even {
         ensures { cells.new ≡ even_word self.now.n labels.now }
     {
         let last = usize::from(self.n) - 1;
-        let mut odd = labels[0];
-        for p in 0..last {
-            let cell = (labels[1] >> (last - 1 - p)) % 2;
-            cells[p] = cell;
-            odd ^= cell;
-        }
-        cells[last] = odd;
+        write_bits(u16::from(labels[1]), &mut cells[..last]);
+        cells[last] = labels[0] ^ parity_of(&cells[..last]);
+    }
+
+    // The number that the first n - 1 of some cells or marks spell.
+    fn spell_front(&self, cells: &[u8]) -> u8
+        requires { Cells self.now.n cells.now }
+        ensures { result ≡ spelled (take (self.now.n - 1) cells.now) }
+    {
+        spell(&cells[..usize::from(self.n) - 1]) as u8
     }
 
     // The number that the first n - 1 cells spell, once the blank ones are turned where `flip` is 1.
-    fn spell(&self, flip: u8, cells: &[u8], marks: &[u8]) -> u8
+    fn spell_turned(&self, flip: u8, cells: &[u8], marks: &[u8]) -> u8
         requires { (Cells self.now.n cells.now) × ((Cells self.now.n marks.now) × (flip < 2)) }
         ensures { result ≡ spelled (take (self.now.n - 1) (filled flip cells.now marks.now)) }
     {
-        let mut number = 0;
-        for p in 0..usize::from(self.n) - 1 {
-            number = 2 * number + turned(cells[p], marks[p], flip);
+        let number = self.spell_front(cells);
+        if flip == 0 {
+            number
+        } else {
+            number ^ self.spell_front(marks)
         }
-        number
     }
 
     // Only a reading without a blank has harm below 1 against some word: its own.
@@ -89,7 +94,7 @@ impl Even {
         if blanks < usize::from(flip) || 1 < blanks {
             return None;
         }
-        let label = self.spell(flip, cells, marks);
+        let label = self.spell_turned(flip, cells, marks);
         Some(Estimate {
             label,
             harm: blanks,
@@ -101,33 +106,19 @@ fn meaning_stands(n: u8)
     ensures { EvenRange n → EvenMeaning n }
 {}
 
-fn turned(cell: u8, mark: u8, flip: u8) -> u8
-    requires { (cell < 2) × (flip < 2) }
-    ensures { result ≡ filled_at flip cell mark }
-{
-    if mark == 0 { cell } else { cell ^ flip }
-}
-
+#[tactic(auto, using(crate::proofs::Sums::total_is))]
 fn ones_of(bits: &[u8]) -> usize
-    requires { (Cells (length bits.now) bits.now) × (length bits.now ≤ 9) }
+    requires { length bits.now ≤ 9 }
     ensures { result ≡ total bits.now }
 {
-    let mut ones = 0;
-    for bit in bits {
-        ones += usize::from(*bit);
-    }
-    ones
+    bits.iter().map(|bit| usize::from(*bit)).sum()
 }
 
 fn parity_of(bits: &[u8]) -> u8
     requires { Cells (length bits.now) bits.now }
     ensures { result ≡ parity bits.now }
 {
-    let mut odd = 0;
-    for bit in bits {
-        odd ^= *bit;
-    }
-    odd
+    bits.iter().fold(0, |odd, bit| odd ^ *bit)
 }
 
 impl Chain for Even {
@@ -160,7 +151,11 @@ impl Chain for Even {
     }
 
     fn word_of(&self, labels: &[u8], cells: &mut [u8]) -> Result<(), Fault> {
-        check_row(usize::from(self.n), &self.widths(), labels, cells)?;
+        let frame = Frame {
+            breadth: usize::from(self.n),
+            widths: &self.widths(),
+        };
+        frame.check_row(labels, cells)?;
         self.lay(labels, cells);
         Ok(())
     }
@@ -172,14 +167,11 @@ impl Chain for Even {
         cells: &[u8],
         marks: &[u8],
     ) -> Result<Option<Estimate>, Fault> {
-        check_reading(
-            usize::from(self.n),
-            &self.widths(),
-            stage,
-            labels,
-            cells,
-            marks,
-        )?;
+        let frame = Frame {
+            breadth: usize::from(self.n),
+            widths: &self.widths(),
+        };
+        frame.check_reading(stage, labels, cells, marks)?;
         if stage == 1 {
             Ok(self.estimate_first(cells, marks))
         } else {

@@ -10,8 +10,9 @@ ghost use Rattle.chains.specs.Votes.{column, columns, turned, laid, settled, ele
 ghost use Rattle.chains.specs.MullerLaw.{muller_lawful};
 
 use crate::chain::{Chain, Estimate};
-use crate::checks::{check_reading, check_row, check_stage};
+use crate::checks::{Frame, check_stage};
 use crate::tables::{number, subsets, widths};
+use words::bits::{spell, write_bits};
 use words::fault::{Fault, Kind, Layer};
 
 /// The Reed-Muller chain of 2^r cells, r from 1 to 4: r + 1 stages, of distance 1, 2, 4 and so on.
@@ -26,7 +27,7 @@ impl ReedMuller {
     pub fn new(r: u8) -> Result<Self, Fault>
         ensures { MatchResult result (λ h. (h.r ≡ r) × MullerRange r) (λ f. (MullerRange r → ⊥) × (f ≡ outside)) }
     {
-        if 1 <= r && r <= 4 {
+        if (1..=4).contains(&r) {
             Ok(ReedMuller { r: usize::from(r) })
         } else {
             Err(Fault::new(Kind::OutsideKind, Layer::Chain, 0))
@@ -37,6 +38,16 @@ impl ReedMuller {
         ensures { result ≡ 2 ^ self.now.r }
     {
         1 << self.r
+    }
+
+    fn frame(&self) -> Frame<'static>
+        ensures breadth { result.breadth ≡ 2 ^ self.now.r }
+        ensures widths { result.widths.now ≡ muller_widths self.now.r }
+    {
+        Frame {
+            breadth: self.cells(),
+            widths: widths(self.r),
+        }
     }
 
     // The word with the cells of the bit at place t turned, where the bit is 1.
@@ -108,8 +119,8 @@ impl ReedMuller {
         ensures harm { result.harm ≡ found_harm self.now.r labels.now cells.now marks.now }
     {
         let decided = self.join(labels);
-        let blank = pack(marks);
-        let begun = self.take_off(decided.bits, decided.count, pack(cells));
+        let blank = spell(marks);
+        let begun = self.take_off(decided.bits, decided.count, spell(cells));
         let settled = self.settle(decided.count, begun, blank);
         Found {
             count: decided.count,
@@ -204,29 +215,6 @@ fn speaks(b: u32, set: u16, word: u16, blank: u16) -> usize
     }
 }
 
-// Cells or marks as one number, the first most significant.
-fn pack(cells: &[u8]) -> u16
-    requires { (length cells.now ≤ 16) × (Cells (length cells.now) cells.now) }
-    ensures is { bits_of (length cells.now) result ≡ cells.now }
-    ensures small { result < 2 ^ length cells.now }
-{
-    let mut word = 0;
-    for cell in cells {
-        word = 2 * word + u16::from(*cell);
-    }
-    word
-}
-
-fn unpack(word: u16, cells: &mut [u8])
-    requires { length cells.old ≤ 16 }
-    ensures { cells.new ≡ bits_of (length cells.old) word }
-{
-    let n = cells.len();
-    for p in 0..n {
-        cells[p] = bit_at(word, n, p) as u8;
-    }
-}
-
 // The harm of a reading, by its blank cells and what is left of it: a blank cell counts once, and not twice.
 fn harm_left(rest: u16, blank: u16) -> usize
     ensures { result + count_ones blank ≡ 2 * count_ones (bit_or rest blank) }
@@ -264,9 +252,9 @@ impl Chain for ReedMuller {
     }
 
     fn word_of(&self, labels: &[u8], cells: &mut [u8]) -> Result<(), Fault> {
-        check_row(self.cells(), widths(self.r), labels, cells)?;
+        self.frame().check_row(labels, cells)?;
         let row = self.join(labels);
-        unpack(self.take_off(row.bits, row.count, 0), cells);
+        write_bits(self.take_off(row.bits, row.count, 0), cells);
         Ok(())
     }
 
@@ -277,7 +265,7 @@ impl Chain for ReedMuller {
         cells: &[u8],
         marks: &[u8],
     ) -> Result<Option<Estimate>, Fault> {
-        check_reading(self.cells(), widths(self.r), stage, labels, cells, marks)?;
+        self.frame().check_reading(stage, labels, cells, marks)?;
         Ok(self.nearest(stage, labels, cells, marks))
     }
 }

@@ -3,14 +3,15 @@ ghost use Rattle.std.specs.Prelude.{◌≡◌, ◌^◌, ◌<◌, slice_index};
 ghost use Rattle.chains.specs.ReedMuller.{MullerRange, muller_widths, order};
 ghost use Rattle.chains.specs.Votes.{subsets};
 
-// The label widths of the stages, five places to each r.
-static WIDTHS: [u8; 20] = [1, 1, 0, 0, 0, 1, 2, 1, 0, 0, 1, 3, 3, 1, 0, 1, 4, 6, 4, 1];
+// The label widths of the stages, by r.
+static WIDTHS: [&[u8]; 4] = [&[1, 1], &[1, 2, 1], &[1, 3, 3, 1], &[1, 4, 6, 4, 1]];
 
-// The numbers of a row's bits, stage by stage, sixteen places to each r.
-static ORDER: [u8; 64] = [
-    1, 0, 0, 0, 0, 0, 0, 0, 0, 0, 0, 0, 0, 0, 0, 0, 3, 1, 2, 0, 0, 0, 0, 0, 0, 0, 0, 0, 0, 0, 0, 0,
-    7, 3, 5, 6, 1, 2, 4, 0, 0, 0, 0, 0, 0, 0, 0, 0, 15, 7, 11, 13, 14, 3, 5, 6, 9, 10, 12, 1, 2, 4,
-    8, 0,
+// The numbers of a row's bits, stage by stage, by r.
+static ORDER: [&[u8]; 4] = [
+    &[1, 0],
+    &[3, 1, 2, 0],
+    &[7, 3, 5, 6, 1, 2, 4, 0],
+    &[15, 7, 11, 13, 14, 3, 5, 6, 9, 10, 12, 1, 2, 4, 8, 0],
 ];
 
 // For each number, the numbers that have no one outside its ones, as a set of bits.
@@ -24,8 +25,7 @@ pub(crate) fn widths(r: usize) -> &'static [u8]
     requires { MullerRange r }
     ensures { result.now ≡ muller_widths r }
 {
-    let row = 5 * (r - 1);
-    &WIDTHS[row..row + r + 1]
+    WIDTHS[r - 1]
 }
 
 /// The number of the bit at place t of a row's bits.
@@ -34,10 +34,11 @@ pub(crate) fn number(r: usize, t: usize) -> usize
     ensures is { result ≡ slice_index (order r) t }
     ensures small { result < 2 ^ r }
 {
-    usize::from(ORDER[16 * (r - 1) + t])
+    usize::from(ORDER[r - 1][t])
 }
 
 /// The numbers that have no one outside those of s, as a set of bits.
+#[tactic(auto, using(crate::proofs::MullerTables::subsets_right))]
 pub(crate) fn subsets(s: usize) -> u16
     requires { s < 16 }
     ensures { result ≡ subsets s }

@@ -1,7 +1,9 @@
 -- One column after the other: a step of each loop over the estimates. Assumes nothing.
-use Rattle.std.proofs.Common.{◌≡◌, ℕ, suc, ◌+◌, ◌^◌, ◌<◌, ◌≤◌, true, false, cond, ltb, List, [], ◌∷◌, ◌++◌, map, length, get_or, take, drop, set, Some, None, Option, sym, ap, ◌∙◌, ap₂, add-one, pow_pos}
+use Rattle.std.proofs.Common.{◌≡◌, ℕ, suc, ◌+◌, ◌-◌, ◌*◌, ◌^◌, ◌<◌, ◌≤◌, true, false, cond, eqb, ltb, List, [], ◌∷◌, ◌++◌, map, length, get_or, take, drop, set, sum_by, zip, Some, None, Option, sym, refl, ap, ◌∙◌, ap₂, add-one, mul-le-mul_right, arith, pow_pos}
+use Rattle.std.proofs.Math.Nat.{suc-mul}
 use Rattle.std.specs.List.{AllByRecursion}
-use Rattle.std.proofs.lemmas.List.{drop_more, at_drop_more, at_drop_all, take_more_set, map_more}
+use Rattle.std.proofs.lemmas.List.{at_drop_more, at_drop_all, take_more_set, map_more}
+use Rattle.std.proofs.lemmas.List.Sums.{sum_by-cons}
 use Rattle.std.proofs.lemmas.Bool.{and_parts, eqb-true, ltb-true}
 use Rattle.words.specs.declared.fault.Kind.TheVariants.{TooLarge}
 use Rattle.words.specs.declared.fault.Layer.TheVariants.{Pile}
@@ -13,11 +15,26 @@ use Rattle.stage_laws.specs.Rule.{score_at, score, Within}
 use Rattle.stage_laws.specs.Promises.{fits_column, first_large, length_refusal, choose_refusal}
 use Rattle.stage_laws.specs.Trials.{trial_symbol, Fitting}
 
-pub score_more : (d : ℕ) (es : List (Option Estimate)) (word : List ℕ) (j : ℕ) → j < length es → j < length word → score d (drop j es) (drop j word) ≡ score_at d (get_or es j None) (get_or word j 0) + score d (drop (j + 1) es) (drop (j + 1) word)
-score_more d es word j le lw = rw (drop_more es j None le, drop_more word j 0 lw)
+-- the score as the library sums it
+pub score_summed : (d : ℕ) (es : List (Option Estimate)) (word : List ℕ) → score d es word ≡ sum_by (λ (p : Option Estimate × ℕ). score_at d p.0 p.1) (zip es word)
+score_summed d [] word = refl
+score_summed d (e ∷ es) [] = refl
+score_summed d (e ∷ es) (x ∷ word) =
+    ap (λ k. score_at d e x + k) (score_summed d es word) ∙ sym (sum_by-cons (λ (p : Option Estimate × ℕ). score_at d p.0 p.1) (e, x) (zip es word))
 
-pub score_all : (d : ℕ) (es : List (Option Estimate)) (word : List ℕ) (j : ℕ) → length es ≤ j → score d (drop j es) (drop j word) ≡ 0
-score_all d es word j l = at_drop_all (λ (left : List (Option Estimate)). score d left (drop j word)) es j l
+-- a column whose harm lies below the inner distance d scores twice that at most
+at_most_twice : (d : ℕ) (e : Option Estimate) (x : ℕ) → Within d e → score_at d e x ≤ 2 * d
+at_most_twice d None x w = omega arith
+at_most_twice d (Some e) x w = elim (eqb e.label x) as (λ t. cond t e.harm (2 * d - e.harm) ≤ 2 * d) [ true ↦ omega arith | false ↦ omega arith ]
+
+score_small : (d : ℕ) (es : List (Option Estimate)) (word : List ℕ) → AllByRecursion (Within d) es → score d es word ≤ length es * (2 * d)
+score_small d [] word w = omega arith
+score_small d (e ∷ es) [] w = omega arith
+score_small d (e ∷ es) (x ∷ word) w = omega (arith, at_most_twice d e x w.0, score_small d es word w.1, suc-mul (length es) (2 * d))
+
+pub score_fits : (d : ℕ) (es : List (Option Estimate)) (word : List ℕ) → d < 256 → length es ≤ 4096 → AllByRecursion (Within d) es → sum_by (λ (p : Option Estimate × ℕ). score_at d p.0 p.1) (zip es word) < 2 ^ 64
+score_fits d es word small short w =
+    omega (arith, sym (score_summed d es word), score_small d es word w, mul-le-mul_right (2 * d) short)
 
 -- one more place is written
 pub filled_more : (f : Option Estimate → ℕ) (es : List (Option Estimate)) (xs : List ℕ) (j x : ℕ) → j < length es → j < length xs → take j xs ≡ map f (take j es) → x ≡ f (get_or es j None) → take (j + 1) (set xs j x) ≡ map f (take (j + 1) es)

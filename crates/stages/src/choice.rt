@@ -1,63 +1,34 @@
 // A stage's choice.
-ghost use Rattle.std.specs.Prelude.{◌≡◌, length, None};
+ghost use Rattle.std.specs.Prelude.{◌≡◌, None};
 ghost use Rattle.codes.specs.Promises.{Refused};
 ghost use Rattle.stage_laws.specs.Rule.{OneChoice};
-ghost use Rattle.stage_laws.specs.Promises.{Choice, Chose, choose_refusal};
-ghost use Rattle.stage_laws.specs.Trials.{Fitting};
+ghost use Rattle.stage_laws.specs.Promises.{Chose, choose_refusal};
 
-use crate::checks::check_choose;
-use crate::trials::search;
+use crate::columns::Columns;
 use chains::chain::Estimate;
 use codes::code::Code;
 use words::fault::Fault;
-
-// Puts the choice into the word, in work space of the code's length.
-fn choose_in<C: Code>(
-    code: &C,
-    inner: u8,
-    estimates: &[Option<Estimate>],
-    word: &mut [u8],
-    candidate: &mut [u8],
-    marks: &mut [u8],
-) -> Option<usize>
-    requires sound { C.Code.sound code.now }
-    requires fits { Fitting (C.Code.model code.now) inner estimates.now }
-    requires word { length word.old ≡ length estimates.now }
-    requires candidate { length candidate.old ≡ length estimates.now }
-    requires marks { length marks.old ≡ length estimates.now }
-    ensures { Choice (C.Code.model code.now) inner estimates.now word.old word.new result }
-{
-    match search(code, inner, estimates, candidate, marks) {
-        None => None,
-        Some(score) => {
-            word.copy_from_slice(candidate);
-            Some(score)
-        }
-    }
-}
+use words::limits::MOST_CELLS;
 
 // The choice of a sound code.
 fn choose_soundly<C: Code>(
     code: &C,
-    inner: u8,
-    estimates: &[Option<Estimate>],
+    columns: Columns<'_>,
     word: &mut [u8],
 ) -> Result<Option<usize>, Fault>
     requires { C.Code.sound code.now }
-    ensures { Chose (C.Code.model code.now) inner estimates.now word.old word.new result }
+    ensures { Chose (C.Code.model code.now) columns.entry.inner columns.entry.estimates.now word.old word.new result }
 {
     let len = code.len();
-    check_choose(1 << code.width(), len, inner, estimates, word)?;
-    let mut candidate = [0; 4096];
-    let mut marks = [0; 4096];
-    Ok(choose_in(
-        code,
-        inner,
-        estimates,
-        word,
-        &mut candidate[0..len],
-        &mut marks[0..len],
-    ))
+    columns.check(1 << code.width(), len, word)?;
+    let mut room = [0; MOST_CELLS];
+    let mut marks = [0; MOST_CELLS];
+    let candidate = &mut room[..len];
+    let found = columns.search(code, candidate, &mut marks[..len]);
+    if found.is_some() {
+        word.copy_from_slice(candidate);
+    }
+    Ok(found)
 }
 
 /// Puts the codeword that the estimates of a stage's columns decide for into the word and answers its score, or leaves
@@ -73,5 +44,5 @@ pub fn choose<C: Code>(
     ensures only { C.Code.sound code.now → choose_refusal (C.Code.model code.now) inner estimates.now word.old ≡ None → OneChoice (C.Code.model code.now) inner estimates.now }
 {
     code.check()?;
-    choose_soundly(code, inner, estimates, word)
+    choose_soundly(code, Columns { inner, estimates }, word)
 }

@@ -2,63 +2,50 @@
 ghost use Rattle.std.specs.Prelude.{◌≡◌, length};
 ghost use Rattle.stage_laws.specs.Trials.{Fitting, Tried, Found};
 
-use crate::columns::fill_trial;
-use crate::scores::{is_choice, score};
-use chains::chain::Estimate;
+use crate::columns::Columns;
 use codes::code::Code;
 
-// One trial: the score of the codeword that the code finds at a threshold, if that is the choice.
-fn trial<C: Code>(
-    code: &C,
-    inner: u8,
-    threshold: usize,
-    estimates: &[Option<Estimate>],
-    candidate: &mut [u8],
-    marks: &mut [u8],
-) -> Option<usize>
-    requires sound { C.Code.sound code.now }
-    requires fits { Fitting (C.Code.model code.now) inner estimates.now }
-    requires candidate { length candidate.old ≡ length estimates.now }
-    requires marks { length marks.old ≡ length estimates.now }
-    ensures { Tried (C.Code.model code.now) inner estimates.now threshold candidate.new result }
-{
-    fill_trial(threshold, estimates, candidate, marks);
-    match code.correct(candidate, marks) {
-        Err(_) => None,
-        Ok(_) => {
-            let found = score(inner, estimates, candidate);
-            if is_choice(found, inner, code.distance()) {
-                Some(found)
-            } else {
-                None
+impl Columns<'_> {
+    // One trial: the score of the codeword that the code finds at a threshold, if that is the choice.
+    fn trial<C: Code>(
+        &self,
+        code: &C,
+        threshold: usize,
+        candidate: &mut [u8],
+        marks: &mut [u8],
+    ) -> Option<usize>
+        requires sound { C.Code.sound code.now }
+        requires fits { Fitting (C.Code.model code.now) self.now.inner self.now.estimates.now }
+        requires candidate { length candidate.old ≡ length self.now.estimates.now }
+        requires marks { length marks.old ≡ length self.now.estimates.now }
+        ensures { Tried (C.Code.model code.now) self.now.inner self.now.estimates.now threshold candidate.new result }
+    {
+        let limit = usize::from(self.inner) * code.distance();
+        self.write_symbols(candidate);
+        self.write_marks(threshold, marks);
+        code.correct(candidate, marks).ok()?;
+        let score = self.score(candidate);
+        if score < limit { Some(score) } else { None }
+    }
+
+    /// The score of the first candidate that is the choice, with the candidate left as it was found.
+    pub(crate) fn search<C: Code>(
+        &self,
+        code: &C,
+        candidate: &mut [u8],
+        marks: &mut [u8],
+    ) -> Option<usize>
+        requires sound { C.Code.sound code.now }
+        requires fits { Fitting (C.Code.model code.now) self.now.inner self.now.estimates.now }
+        requires candidate { length candidate.old ≡ length self.now.estimates.now }
+        requires marks { length marks.old ≡ length self.now.estimates.now }
+        ensures { Found (C.Code.model code.now) self.now.inner self.now.estimates.now candidate.new result }
+    {
+        for threshold in 1..=usize::from(self.inner) {
+            if let Some(score) = self.trial(code, threshold, candidate, marks) {
+                return Some(score);
             }
         }
-    }
-}
-
-/// The score of the first candidate that is the choice, with the candidate left as it was found.
-pub(crate) fn search<C: Code>(
-    code: &C,
-    inner: u8,
-    estimates: &[Option<Estimate>],
-    candidate: &mut [u8],
-    marks: &mut [u8],
-) -> Option<usize>
-    requires sound { C.Code.sound code.now }
-    requires fits { Fitting (C.Code.model code.now) inner estimates.now }
-    requires candidate { length candidate.old ≡ length estimates.now }
-    requires marks { length marks.old ≡ length estimates.now }
-    ensures { Found (C.Code.model code.now) inner estimates.now candidate.new result }
-{
-    let last = usize::from(inner);
-    let mut threshold = 1;
-    'trials: loop {
-        if threshold > last {
-            break 'trials None;
-        }
-        if let Some(score) = trial(code, inner, threshold, estimates, candidate, marks) {
-            break 'trials Some(score);
-        }
-        threshold += 1;
+        None
     }
 }

@@ -1,16 +1,10 @@
-use Rattle.std.proofs.Common.{◌<◌, ap, ◌∙◌, arith}
-use Rattle.std.proofs.ByRecursion.{All-get_or}
-use Rattle.std.proofs.lemmas.List.{take_all}
-use Rattle.chains.specs.Bits.{parity}
-use Rattle.chains.specs.Parity.{total_more, xor_bit}
+use Rattle.std.proofs.Common.{◌≡◌, ◌∙◌, rules}
+use Rattle.std.specs.List.{fold}
+use lib.Bits.{bit_xor}
+use Rattle.chains.proofs.Sums.{parity_is}
 use Rattle.chains.proofs.even.parity_of.Goals as goal
 
-pub loop-bit-preserved : goal.loop-bit-preserved
-loop-bit-preserved c =
-    let bits = c.args.bits.now in
-    let i = c.loop-bit.bit-index in
-    let small = All-get_or (λ b. b < 2) bits i 0 c.loop-bit-test.true c.requires.1 in
-    xor_bit _ _ (omega (arith, c.loop-bit.invariant)) small ∙ omega (arith, total_more bits i c.loop-bit-test.true, c.loop-bit.invariant)
-
 pub returns : goal.returns
-returns c = c.loop-bit.invariant ∙ ap parity (take_all _ _ c.loop-bit-test.false)
+returns c =
+    let folded : c.fold.result ≡ fold bit_xor 0 c.args.bits.now = search rules in
+    folded ∙ parity_is c.args.bits.now c.requires.1

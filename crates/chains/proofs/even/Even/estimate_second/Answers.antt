@@ -24,5 +24,5 @@ returns c =
     let marks = c.args.marks.now in
     let odd = c.args.odd in
     let flip = turn odd (total cells) c.requires.1.1 c.parity_of.ensures in
-    subst₂ (λ (x y : ℕ). Estimates (even_chain n) 2 (odd ∷ []) cells marks (Some (record { label = x; harm = y }))) (sym c.spell-label.ensures) (sym c.ones_of-blanks.ensures)
+    subst₂ (λ (x y : ℕ). Estimates (even_chain n) 2 (odd ∷ []) cells marks (Some (record { label = x; harm = y }))) (sym c.spell_turned-label.ensures) (sym c.ones_of-blanks.ensures)
     (second_some n c.args.self.now.range cells marks c.requires.0 c.requires.1.0 odd _ c.requires.1.1 flip (omega (arith, c.from.ensures, c.ones_of-blanks.ensures)) (omega (arith, c.ones_of-blanks.ensures)))

@@ -1,13 +1,13 @@
-use Rattle.std.proofs.Common.{refl, arith}
+use Rattle.std.proofs.Common.{◌^◌}
 use Rattle.chains.specs.MullerColumns.{muller_sizes}
+use Rattle.chains.proofs.Masks.{packed}
 use Rattle.chains.proofs.MullerEstimates.{Worked, worked_bits, worked_harm}
 use Rattle.chains.proofs.reed_muller.ReedMuller.find.Goals as goal
 
-pub pack-blank-requires : goal.pack-blank-requires
-pack-blank-requires c = (omega (arith, c.requires.marks_fit.0, (muller_sizes c.args.self.now.r c.args.self.now.range).few_cells), (refl, c.requires.marks_fit.1))
-
-pub pack-requires : goal.pack-requires
-pack-requires c = (omega (arith, c.requires.cells_fit.0, (muller_sizes c.args.self.now.r c.args.self.now.range).few_cells), (refl, c.requires.cells_fit.1))
+pub take_off-begun-requires : goal.take_off-begun-requires
+take_off-begun-requires c =
+    let few = (muller_sizes c.args.self.now.r c.args.self.now.range).few_cells in
+    (c.join-decided.ensures.fits, (packed (2 ^ c.args.self.now.r) _ _ few c.requires.cells_fit c.spell.ensures).1)
 
 pub returns : goal.returns
 returns c =
@@ -16,19 +16,22 @@ returns c =
     let labels = c.args.labels.now in
     let cells = c.args.cells.now in
     let marks = c.args.marks.now in
+    let few = (muller_sizes r range).few_cells in
+    let word = packed (2 ^ r) _ cells few c.requires.cells_fit c.spell.ensures in
+    let blank = packed (2 ^ r) _ marks few c.requires.marks_fit c.spell-blank.ensures in
     let worked : Worked r labels cells marks = record {
       count = c.join-decided.result.count;
       bits = c.join-decided.result.bits;
-      word = c.pack.result;
-      blank = c.pack-blank.result;
+      word = c.spell.result;
+      blank = c.spell-blank.result;
       begun = c.take_off-begun.result;
       settled_bits = c.settle-settled.result.bits;
       rest = c.settle-settled.result.rest;
       count_is = c.join-decided.ensures.count;
       bits_are = c.join-decided.ensures.bits;
-      word_is = c.pack.ensures.is;
-      blank_is = c.pack-blank.ensures.is;
-      blank_small = c.pack-blank.ensures.small;
+      word_is = word.0;
+      blank_is = blank.0;
+      blank_small = blank.1;
       begun_is = c.take_off-begun.ensures.is;
       settled_is = c.settle-settled.ensures.bits;
       rest_is = c.settle-settled.ensures.rest;

@@ -1,5 +1,4 @@
-use Rattle.std.proofs.Common.{◌+◌, ◌^◌, ◌≤◌, sym, ◌∙◌, subst}
-use Rattle.std.specs.List.{AllByRecursion}
+use Rattle.std.proofs.Common.{◌+◌, ◌^◌, sym, ◌∙◌}
 use Rattle.words.proofs.Rises.{raised, checked_err}
 use Rattle.chains.specs.Model.{at_stage}
 use Rattle.chains.specs.Promises.{Estimates}
@@ -9,9 +8,6 @@ use Rattle.chains.specs.Fits.{reading_fits}
 use Rattle.chains.specs.MullerColumns.{muller_sizes}
 use Rattle.chains.proofs.reed_muller.ReedMullerChain.estimate.Goals as goal
 
-pub check_reading-requires : goal.check_reading-requires
-check_reading-requires c = subst (AllByRecursion (λ w. w ≤ 8)) (sym c.widths.ensures) (muller_sizes c.args.self.now.r c.args.self.now.range).few_width
-
 pub returns-in_err-check_reading : goal.returns-in_err-check_reading
 returns-in_err-check_reading c =
     let r = c.args.self.now.r in
@@ -19,7 +15,7 @@ returns-in_err-check_reading c =
     let cells = c.args.cells.now in
     let marks = c.args.marks.now in
     let stages = (muller_sizes r c.args.self.now.range).stages in
-    let due = sym (same_reading c.args.stage labels cells marks c.cells.ensures c.widths.ensures stages) ∙ checked_err _ c.in_err-check_reading.ensures in
+    let due = sym (same_reading c.args.stage labels cells marks c.frame.ensures.breadth c.frame.ensures.widths stages) ∙ checked_err _ c.in_err-check_reading.ensures in
     (λ _. refuses _ (Estimates (muller_chain r) c.args.stage labels cells marks) c.from_residual.result due (raised _ c.from_residual.ensures.1), λ no. absurd (no tt))
 
 pub nearest-requires : goal.nearest-requires
@@ -27,7 +23,7 @@ nearest-requires c =
     let r = c.args.self.now.r in
     let stages = (muller_sizes r c.args.self.now.range).stages in
     reading_fits (2 ^ r) (r + 1) (at_stage (muller_widths r)) c.args.stage c.args.labels.now c.args.cells.now c.args.marks.now
-    (reading_passed c.args.stage c.args.labels.now c.args.cells.now c.args.marks.now c.cells.ensures c.widths.ensures stages c.in_ok-check_reading.ensures)
+    (reading_passed c.args.stage c.args.labels.now c.args.cells.now c.args.marks.now c.frame.ensures.breadth c.frame.ensures.widths stages c.in_ok-check_reading.ensures)
 
 pub returns : goal.returns
 returns c =
@@ -36,5 +32,5 @@ returns c =
     let cells = c.args.cells.now in
     let marks = c.args.marks.now in
     let stages = (muller_sizes r c.args.self.now.range).stages in
-    let none = reading_passed c.args.stage labels cells marks c.cells.ensures c.widths.ensures stages c.in_ok-check_reading.ensures in
+    let none = reading_passed c.args.stage labels cells marks c.frame.ensures.breadth c.frame.ensures.widths stages c.in_ok-check_reading.ensures in
     (λ _. answers _ (Estimates (muller_chain r) c.args.stage labels cells marks) _ none c.nearest.ensures, λ no. absurd (no tt))

@@ -1,5 +1,4 @@
-use Rattle.std.proofs.Common.{◌≡◌, ◌+◌, ◌^◌, ◌≤◌, sym, ap, ◌∙◌, subst, ap₂, arith}
-use Rattle.std.specs.List.{AllByRecursion}
+use Rattle.std.proofs.Common.{◌≡◌, ◌+◌, ◌^◌, sym, ap, ◌∙◌, ap₂, arith}
 use Rattle.words.specs.Buffers.{checked}
 use Rattle.words.proofs.Rises.{raised, checked_err}
 use Rattle.chains.specs.Bits.{bits_of}
@@ -14,31 +13,21 @@ use Rattle.chains.specs.MullerWords.{word_is}
 use Rattle.chains.specs.Spelling.{bits_none}
 use Rattle.chains.proofs.reed_muller.ReedMullerChain.word_of.Goals as goal
 
-pub check_row-requires : goal.check_row-requires
-check_row-requires c = subst (AllByRecursion (λ w. w ≤ 8)) (sym c.widths.ensures) (muller_sizes c.args.self.now.r c.args.self.now.range).few_width
-
 pub returns-in_err-check_row : goal.returns-in_err-check_row
 returns-in_err-check_row c =
     let r = c.args.self.now.r in
     let labels = c.args.labels.now in
     let cells = c.args.cells.now in
     let stages = (muller_sizes r c.args.self.now.range).stages in
-    let due = sym (same_row labels cells c.cells.ensures c.widths.ensures stages) ∙ checked_err _ c.in_err-check_row.ensures in
+    let due = sym (same_row labels cells c.frame.ensures.breadth c.frame.ensures.widths stages) ∙ checked_err _ c.in_err-check_row.ensures in
     (λ _. (raised _ c.from_residual.ensures.1 ∙ ap checked (sym due), ap (λ z. kept_or z cells (muller_word r labels)) (sym due)), λ no. absurd (no tt))
 
 pub join-row-requires : goal.join-row-requires
 join-row-requires c =
     let r = c.args.self.now.r in
     let stages = (muller_sizes r c.args.self.now.range).stages in
-    let fits = row_fits (2 ^ r) (r + 1) (at_stage (muller_widths r)) c.args.labels.now c.args.cells.now (row_passed c.args.labels.now c.args.cells.now c.cells.ensures c.widths.ensures stages c.in_ok-check_row.ensures) in
+    let fits = row_fits (2 ^ r) (r + 1) (at_stage (muller_widths r)) c.args.labels.now c.args.cells.now (row_passed c.args.labels.now c.args.cells.now c.frame.ensures.breadth c.frame.ensures.widths stages c.in_ok-check_row.ensures) in
     (omega (arith, fits.many), fits.each)
-
-pub unpack-requires : goal.unpack-requires
-unpack-requires c =
-    let r = c.args.self.now.r in
-    let sizes = muller_sizes r c.args.self.now.range in
-    let fits = row_fits (2 ^ r) (r + 1) (at_stage (muller_widths r)) c.args.labels.now c.args.cells.now (row_passed c.args.labels.now c.args.cells.now c.cells.ensures c.widths.ensures sizes.stages c.in_ok-check_row.ensures) in
-    omega (arith, fits.room, sizes.few_cells)
 
 pub returns : goal.returns
 returns c =
@@ -46,10 +35,10 @@ returns c =
     let labels = c.args.labels.now in
     let cells = c.args.cells.now in
     let stages = (muller_sizes r c.args.self.now.range).stages in
-    let due = row_passed labels cells c.cells.ensures c.widths.ensures stages c.in_ok-check_row.ensures in
+    let due = row_passed labels cells c.frame.ensures.breadth c.frame.ensures.widths stages c.in_ok-check_row.ensures in
     let fits = row_fits (2 ^ r) (r + 1) (at_stage (muller_widths r)) labels cells due in
-    let word : c.unpack.new.cells ≡ muller_word r labels =
-    c.unpack.ensures
+    let word : c.write_bits.new.bits ≡ muller_word r labels =
+    c.write_bits.ensures
     ∙ ap (λ k. bits_of k c.take_off.result) fits.room
     ∙ c.take_off.ensures.is
     ∙ ap₂ (laid (columns r)) c.join-row.ensures.bits (bits_none (2 ^ r))
