@@ -1,5 +1,5 @@
 -- What a call owes once its buffers have passed. Assumes nothing.
-use Rattle.std.proofs.Common.{◌≡◌, ℕ, ◌^◌, ◌<◌, List, [], ◌∷◌, length, IsErrAnd, None, Ok, Err, Result, sym, refl, subst}
+use Rattle.std.proofs.Common.{◌≡◌, ℕ, ◌*◌, ◌%◌, ◌^◌, ◌<◌, ◌≤◌, List, [], ◌∷◌, length, IsErrAnd, None, Ok, Err, Result, sym, refl, ap, ◌∙◌, subst, mod-eq_of_lt, one-mul, arith, pow_mono}
 use Rattle.std.specs.List.{AllByRecursion}
 use Rattle.words.specs.declared.fault.Fault.{Fault}
 use Rattle.words.specs.declared.fault.Kind.TheVariants.{NoCodeword}
@@ -17,6 +17,10 @@ use Rattle.codes.specs.Promises.{values_below, written_to, marks_of, Recovered, 
 -- the refusal of a code that is not sound rises through `?`
 pub unsound_raised : {X : Type 0} (refuses : Fault → Type 0) (r : Result X Fault) {f : Fault} → IsErrAnd r (λ x. x ≡ f) → refuses f → Refused refuses r
 unsound_raised {X} refuses r e h = subst (λ (q : Result X Fault). Refused refuses q) (sym (raised r e)) h
+
+-- the number of symbols as a program works it out
+pub shifted : (m : ℕ) → m ≤ 8 → 1 * 2 ^ m % 18446744073709551616 ≡ 2 ^ m
+shifted m h = ap (λ n. n % 18446744073709551616) (one-mul (2 ^ m)) ∙ mod-eq_of_lt (omega (arith, pow_mono {i = m} {j = 8} h))
 
 module _ (c : CodeModel) where
   abbrev pub encode_buffers : ℕ → List ℕ → List ℕ → List Given

@@ -8,7 +8,7 @@ ghost use Rattle.pile_laws.specs.Stages.{Choices};
 ghost use Rattle.piles.specs.Decoding.{Chooses, ChoosesAll, EstimatedColumns, Finds, ReadWord};
 ghost use Rattle.piles.specs.Sound.{SoundPile};
 
-use crate::columns::{MOST_STAGES, gather, lay_columns};
+use crate::columns::{gather, lay_columns};
 use crate::numbers::least_reach;
 use chains::chain::{Chain, Estimate};
 use codes::checks::check_near;
@@ -16,6 +16,7 @@ use codes::code::Code;
 use stages::choice::choose;
 use words::fault::{Fault, Kind, Layer};
 use words::harms::harm;
+use words::limits::MOST_STAGES;
 
 /// The same as `estimate_column`, with room for the labels.
 fn estimate_labels<H: Chain>(

@@ -7,35 +7,16 @@ ghost use Rattle.pile_laws.specs.Flat.{words_in};
 
 use chains::chain::Chain;
 use words::fault::Fault;
-
-/// The most stages that a chain has.
-pub(crate) const MOST_STAGES: usize = 5;
+use words::limits::MOST_STAGES;
 
 /// Takes the labels of column j out of the stages' codewords.
 pub(crate) fn gather(words: &[u8], columns: usize, j: usize, labels: &mut [u8])
     requires { (j < columns) × (columns * length labels.old ≤ length words.now) }
     ensures { labels.new ≡ labels_at (words_in columns (length labels.old) words.now) j }
 {
-    for k in 0..labels.len() {
-        labels[k] = words[columns * k + j];
+    for (k, label) in labels.iter_mut().enumerate() {
+        *label = words[columns * k + j];
     }
-}
-
-/// The same as `lay_column`, with room for the labels.
-fn lay_labels<H: Chain>(
-    chain: &H,
-    words: &[u8],
-    columns: usize,
-    j: usize,
-    labels: &mut [u8],
-    cells: &mut [u8],
-) -> Result<(), Fault>
-    requires chain { (H.Chain.sound chain.now) × ((length labels.old ≡ (H.Chain.model chain.now).stages) × (length cells.old ≡ (H.Chain.model chain.now).breadth)) }
-    requires words { (j < columns) × ((columns * (H.Chain.model chain.now).stages ≤ length words.now) × (Row (H.Chain.model chain.now) (labels_at (words_in columns (H.Chain.model chain.now).stages words.now) j))) }
-    ensures { MatchResult result (λ _. cells.new ≡ (H.Chain.model chain.now).word (labels_at (words_in columns (H.Chain.model chain.now).stages words.now) j)) (λ _. ⊥) }
-{
-    gather(words, columns, j, labels);
-    chain.word_of(labels, cells)
 }
 
 /// Fills the cells of column j with the chain's word of its labels.
@@ -49,15 +30,10 @@ fn lay_column<H: Chain>(
     requires { (H.Chain.sound chain.now) × ((j < columns) × ((columns * (H.Chain.model chain.now).stages ≤ length words.now) × ((length cells.old ≡ (H.Chain.model chain.now).breadth) × (Row (H.Chain.model chain.now) (labels_at (words_in columns (H.Chain.model chain.now).stages words.now) j))))) }
     ensures { MatchResult result (λ _. cells.new ≡ (H.Chain.model chain.now).word (labels_at (words_in columns (H.Chain.model chain.now).stages words.now) j)) (λ _. ⊥) }
 {
-    let mut labels = [0; MOST_STAGES];
-    lay_labels(
-        chain,
-        words,
-        columns,
-        j,
-        &mut labels[0..chain.stages()],
-        cells,
-    )
+    let mut room = [0; MOST_STAGES];
+    let labels = &mut room[..chain.stages()];
+    gather(words, columns, j, labels);
+    chain.word_of(labels, cells)
 }
 
 /// Fills the cells of all columns, one behind the other.

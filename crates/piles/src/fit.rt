@@ -11,6 +11,7 @@ ghost use Rattle.piles.specs.Sound.{FirstUnsound, RefusesFit, SoundOrRefused, So
 use chains::chain::Chain;
 use codes::code::Code;
 use words::fault::{Fault, Kind, Layer};
+use words::limits::MOST_CELLS;
 
 /// Refuses the first code that is not sound, by that code's own fault.
 fn check_codes<A: Code>(codes: &[A]) -> Result<(), Fault>
@@ -62,9 +63,6 @@ pub(crate) fn count_columns<A: Code>(codes: &[A]) -> usize
 {
     if codes.len() == 0 { 0 } else { codes[0].len() }
 }
-
-/// The most cells that a page has.
-const MOST_CELLS: usize = 4096;
 
 fn unfit_at(place: usize) -> Fault
     ensures { result ≡ fault UnfitStages the_pile place }

@@ -1,50 +1,25 @@
 // The bits of a pile's message as the symbols of its stages' messages, most significant bit first.
 ghost use Rattle.std.specs.Prelude.{◌≡◌, ◌*◌, ◌<◌, ◌≤◌, map, length, MatchResult};
 ghost use Rattle.std.specs.List.{AllByRecursion};
-ghost use Rattle.chains.specs.Bits.{spelled};
 ghost use Rattle.pile_laws.specs.Build.{stage_bits, stage_words, symbols as symbols_of, total_bits};
 ghost use Rattle.pile_laws.specs.Fit.{EachLong};
 ghost use Rattle.pile_laws.specs.Flat.{words_in};
 
 use crate::numbers::bits_of;
 use codes::code::Code;
+use words::bits::spell;
 use words::fault::Fault;
-
-/// The number that up to eight bits spell.
-fn spell(bits: &[u8]) -> u8
-    requires { (length bits.now ≤ 8) × (AllByRecursion (λ b. b < 2) bits.now) }
-    ensures { result ≡ spelled bits.now }
-{
-    let mut number: u16 = 0;
-    for bit in bits {
-        number = 2 * number + u16::from(*bit);
-    }
-    number as u8
-}
+use words::limits::MOST_CELLS;
 
 /// Reads symbols of a width off the bits that spell them.
-pub(crate) fn read_symbols(bits: &[u8], width: usize, symbols: &mut [u8])
+fn read_symbols(bits: &[u8], width: usize, symbols: &mut [u8])
     requires { (width ≤ 8) × ((length bits.now ≡ length symbols.old * width) × (AllByRecursion (λ b. b < 2) bits.now)) }
     ensures { symbols.new ≡ symbols_of width (length symbols.old) bits.now }
 {
-    for i in 0..symbols.len() {
+    for (i, symbol) in symbols.iter_mut().enumerate() {
         let start = i * width;
-        symbols[i] = spell(&bits[start..start + width]);
+        *symbol = spell(&bits[start..start + width]) as u8;
     }
-}
-
-/// The same as `encode_stage`, with room for the symbols.
-fn encode_symbols<A: Code>(
-    code: &A,
-    bits: &[u8],
-    symbols: &mut [u8],
-    word: &mut [u8],
-) -> Result<(), Fault>
-    requires { (A.Code.sound code.now) × ((length bits.now ≡ stage_bits (A.Code.model code.now)) × ((AllByRecursion (λ b. b < 2) bits.now) × ((length symbols.old ≡ (A.Code.model code.now).message_len) × (length word.old ≡ (A.Code.model code.now).len)))) }
-    ensures { MatchResult result (λ _. word.new ≡ (A.Code.model code.now).codeword (symbols_of (A.Code.model code.now).width (A.Code.model code.now).message_len bits.now)) (λ _. ⊥) }
-{
-    read_symbols(bits, code.width(), symbols);
-    code.encode(symbols, word)
 }
 
 /// The codeword of a stage's message, which is given by its bits.
@@ -52,8 +27,10 @@ fn encode_stage<A: Code>(code: &A, bits: &[u8], word: &mut [u8]) -> Result<(), F
     requires { (A.Code.sound code.now) × ((length bits.now ≡ stage_bits (A.Code.model code.now)) × ((AllByRecursion (λ b. b < 2) bits.now) × (length word.old ≡ (A.Code.model code.now).len))) }
     ensures { MatchResult result (λ _. word.new ≡ (A.Code.model code.now).codeword (symbols_of (A.Code.model code.now).width (A.Code.model code.now).message_len bits.now)) (λ _. ⊥) }
 {
-    let mut symbols = [0; 4096];
-    encode_symbols(code, bits, &mut symbols[0..code.message_len()], word)
+    let mut room = [0; MOST_CELLS];
+    let symbols = &mut room[..code.message_len()];
+    read_symbols(bits, code.width(), symbols);
+    code.encode(symbols, word)
 }
 
 /// Encodes the stages' messages one behind the other; their bits lie one behind the other too.

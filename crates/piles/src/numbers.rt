@@ -1,5 +1,5 @@
 // The numbers of a pile whose parts are sound and fit: message bits and reach.
-ghost use Rattle.std.specs.Prelude.{◌≡◌, ◌*◌, ◌≤◌, min, map, length, MatchResult};
+ghost use Rattle.std.specs.Prelude.{◌≡◌, ◌*◌, ◌≤◌, map, length, MatchResult};
 ghost use Rattle.std.specs.List.{AllByRecursion};
 ghost use Rattle.chains.specs.Model.{Stage};
 ghost use Rattle.pile_laws.specs.Build.{stage_bits, total_bits, reach as reach_of};
@@ -30,12 +30,6 @@ pub(crate) fn count_bits<A: Code>(codes: &[A]) -> usize
     bits
 }
 
-fn lesser(a: usize, b: usize) -> usize
-    ensures { result ≡ min a b }
-{
-    if a < b { a } else { b }
-}
-
 /// A stage's inner times outer distance.
 fn stage_reach<H: Chain, A: Code>(chain: &H, code: &A, stage: usize) -> Result<usize, Fault>
     requires { (H.Chain.sound chain.now) × ((A.Code.sound code.now) × (Stage (H.Chain.model chain.now) stage)) }
@@ -52,7 +46,7 @@ pub(crate) fn least_reach<H: Chain, A: Code>(chain: &H, codes: &[A]) -> Result<u
 {
     let mut reach = stage_reach(chain, &codes[0], 1)?;
     for (i, code) in codes.iter().enumerate() {
-        reach = lesser(reach, stage_reach(chain, code, i + 1)?);
+        reach = reach.min(stage_reach(chain, code, i + 1)?);
     }
     Ok(reach)
 }

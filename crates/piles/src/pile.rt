@@ -6,6 +6,7 @@ ghost use Rattle.words.specs.Buffers.{refusal};
 ghost use Rattle.words.specs.Faults.{fault};
 ghost use Rattle.chains.specs.Model.{Cells};
 ghost use Rattle.codes.specs.Model.{Lawful, Message, OnlyOneNear};
+ghost use Rattle.codes.specs.Parameters.{parameters_of};
 ghost use Rattle.codes.specs.Promises.{Corrected, Encoded, Recovered, Refused};
 ghost use Rattle.codes.proofs.Working.{correct_buffers, message_of_buffers};
 ghost use Rattle.pile_laws.specs.Build.{columns as columns_of, reach as reach_of};
@@ -20,7 +21,7 @@ use crate::messages::encode_stages;
 use crate::numbers::{count_bits, least_reach};
 use crate::recovery::recover_stages;
 use chains::chain::Chain;
-use codes::checks::{check_correct, check_encode, check_message_of};
+use codes::checks::Parameters;
 use codes::code::Code;
 use words::fault::{Fault, Kind, Layer};
 
@@ -86,6 +87,18 @@ fn count_cells<H: Chain, A: Code>(chain: &H, codes: &[A]) -> usize
     ensures bound { result ≤ 4096 }
 {
     chain.breadth() * count_columns(codes)
+}
+
+/// What the calls of a pile check their buffers against.
+fn parameters<H: Chain, A: Code>(chain: &H, codes: &[A]) -> Parameters
+    requires { SoundPile (H.Chain.sound chain.now) (H.Chain.model chain.now) A.Code.model A.Code.sound codes.now }
+    ensures { result ≡ parameters_of (pile (H.Chain.model chain.now) (map A.Code.model codes.now)) }
+{
+    Parameters {
+        symbols: 2,
+        message_len: count_bits(codes),
+        len: count_cells(chain, codes),
+    }
 }
 
 /// The same as `write_codeword`, with room for the stages' codewords.
@@ -296,13 +309,7 @@ impl<H: Chain, A: Code> Pile<H, A> {
     {
         self.check()?;
         let codes = self.codes();
-        check_encode(
-            2,
-            message,
-            count_bits(codes),
-            word,
-            count_cells(&self.chain, codes),
-        )?;
+        parameters(&self.chain, codes).check_encode(message, word)?;
         write_codeword(&self.chain, codes, message, word)
     }
 
@@ -313,13 +320,7 @@ impl<H: Chain, A: Code> Pile<H, A> {
     {
         self.check()?;
         let codes = self.codes();
-        check_message_of(
-            2,
-            message,
-            count_bits(codes),
-            word,
-            count_cells(&self.chain, codes),
-        )?;
+        parameters(&self.chain, codes).check_message_of(word, message)?;
         recover(&self.chain, codes, word, message)
     }
 
@@ -332,7 +333,7 @@ impl<H: Chain, A: Code> Pile<H, A> {
     {
         self.check()?;
         let codes = self.codes();
-        check_correct(2, word, marks, count_cells(&self.chain, codes))?;
+        parameters(&self.chain, codes).check_correct(word, marks)?;
         replace(&self.chain, codes, word, marks)
     }
 }

@@ -1,7 +1,6 @@
 // The message of a pile by the codewords of its stages: each stage's message, and the bits that spell it.
 ghost use Rattle.std.specs.Prelude.{◌≡◌, ℕ, ◌*◌, ◌<◌, ◌≤◌, List, map, length, MatchResult};
 ghost use Rattle.std.specs.List.{AllByRecursion};
-ghost use Rattle.chains.specs.Bits.{bits_of};
 ghost use Rattle.codes.specs.Model.{Message};
 ghost use Rattle.pile_laws.specs.Build.{encoded, joined_bits, spelled_out, stage_bits, total_bits};
 ghost use Rattle.pile_laws.specs.Fit.{EachLong};
@@ -11,43 +10,19 @@ ghost use Rattle.pile_laws.proofs.Outcomes.{EncodedAt};
 
 use crate::numbers::bits_of;
 use codes::code::Code;
+use words::bits::write_bits;
 use words::fault::Fault;
-
-/// Writes the bits of a number of up to eight bits.
-fn write_number(number: u8, bits: &mut [u8])
-    requires { length bits.old ≤ 8 }
-    ensures { bits.new ≡ bits_of (length bits.old) number }
-{
-    let width = bits.len();
-    for k in 0..width {
-        bits[k] = (number >> (width - 1 - k)) % 2;
-    }
-}
+use words::limits::MOST_CELLS;
 
 /// Writes the bits that spell symbols of a width.
-fn write_bits(symbols: &[u8], width: usize, bits: &mut [u8])
+fn spell_out(symbols: &[u8], width: usize, bits: &mut [u8])
     requires { (width ≤ 8) × (length bits.old ≡ length symbols.now * width) }
     ensures { bits.new ≡ spelled_out width symbols.now }
 {
     for (i, symbol) in symbols.iter().enumerate() {
         let start = i * width;
-        write_number(*symbol, &mut bits[start..start + width]);
+        write_bits(u16::from(*symbol), &mut bits[start..start + width]);
     }
-}
-
-/// The same as `recover_stage`, with room for the symbols.
-fn recover_symbols<A: Code>(
-    code: &A,
-    word: &[u8],
-    symbols: &mut [u8],
-    bits: &mut [u8],
-) -> Result<(), Fault>
-    requires { (A.Code.sound code.now) × ((((u : List ℕ) × Message (A.Code.model code.now) u × ((A.Code.model code.now).codeword u ≡ word.now))) × ((length symbols.old ≡ (A.Code.model code.now).message_len) × (length bits.old ≡ stage_bits (A.Code.model code.now)))) }
-    ensures { MatchResult result (λ _. (u : List ℕ) × Message (A.Code.model code.now) u × ((A.Code.model code.now).codeword u ≡ word.now) × (bits.new ≡ spelled_out (A.Code.model code.now).width u)) (λ _. ⊥) }
-{
-    code.message_of(word, symbols)?;
-    write_bits(symbols, code.width(), bits);
-    Ok(())
 }
 
 /// The bits of the message of a stage, which is given by its codeword.
@@ -55,8 +30,11 @@ fn recover_stage<A: Code>(code: &A, word: &[u8], bits: &mut [u8]) -> Result<(), 
     requires { (A.Code.sound code.now) × ((((u : List ℕ) × Message (A.Code.model code.now) u × ((A.Code.model code.now).codeword u ≡ word.now))) × (length bits.old ≡ stage_bits (A.Code.model code.now))) }
     ensures { MatchResult result (λ _. (u : List ℕ) × Message (A.Code.model code.now) u × ((A.Code.model code.now).codeword u ≡ word.now) × (bits.new ≡ spelled_out (A.Code.model code.now).width u)) (λ _. ⊥) }
 {
-    let mut symbols = [0; 4096];
-    recover_symbols(code, word, &mut symbols[0..code.message_len()], bits)
+    let mut room = [0; MOST_CELLS];
+    let symbols = &mut room[..code.message_len()];
+    code.message_of(word, symbols)?;
+    spell_out(symbols, code.width(), bits);
+    Ok(())
 }
 
 /// The bits of the stages' messages one behind the other; the stages' codewords lie one behind the other too.

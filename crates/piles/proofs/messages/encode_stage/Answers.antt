@@ -5,7 +5,7 @@ use Rattle.codes.specs.Model.{Message}
 use Rattle.pile_laws.specs.Build.{symbols}
 use Rattle.pile_laws.proofs.Calls.{encoded_answer}
 use Rattle.pile_laws.proofs.Messages.{length_symbols, small_symbols}
-use Rattle.piles.proofs.messages.encode_symbols.Goals as goal
+use Rattle.piles.proofs.messages.encode_stage.Goals as goal
 
 pub returns : goal.returns
 returns g c =

@@ -5,7 +5,7 @@ use Rattle.chains.specs.Bits.{bits_of}
 use Rattle.pile_laws.specs.Build.{spelled_out}
 use Rattle.pile_laws.proofs.Messages.{symbol_room}
 use Rattle.pile_laws.proofs.Recovery.{spelled_more}
-use Rattle.piles.proofs.recovery.write_bits.Goals as goal
+use Rattle.piles.proofs.recovery.spell_out.Goals as goal
 
 pub slice_bounds-write_number-end : goal.slice_bounds-write_number-end
 slice_bounds-write_number-end c =

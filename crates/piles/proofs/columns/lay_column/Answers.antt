@@ -5,7 +5,7 @@ use Rattle.chains.specs.Model.{Row}
 use Rattle.pile_laws.specs.Build.{labels_at}
 use Rattle.pile_laws.specs.Flat.{words_in}
 use Rattle.pile_laws.proofs.Calls.{worded_answer}
-use Rattle.piles.proofs.columns.lay_labels.Goals as goal
+use Rattle.piles.proofs.columns.lay_column.Goals as goal
 
 pub returns : goal.returns
 returns g c =

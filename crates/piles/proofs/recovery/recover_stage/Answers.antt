@@ -3,7 +3,7 @@ use Rattle.std.specs.List.{AllByRecursion}
 use Rattle.std.proofs.ByRecursion.{All-from_get_or}
 use Rattle.pile_laws.specs.Build.{spelled_out}
 use Rattle.pile_laws.proofs.Recovery.{codeword_answer}
-use Rattle.piles.proofs.recovery.recover_symbols.Goals as goal
+use Rattle.piles.proofs.recovery.recover_stage.Goals as goal
 
 pub write_bits-requires : goal.write_bits-requires
 write_bits-requires g c =
