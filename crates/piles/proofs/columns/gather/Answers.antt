@@ -3,13 +3,13 @@ use Rattle.std.proofs.lemmas.List.Edits.{fill_by_more}
 use Rattle.pile_laws.proofs.Flat.{gathered_labels, place_in}
 use Rattle.piles.proofs.columns.gather.Goals as goal
 
-pub overflow_mul-labels : goal.overflow_mul-labels
-overflow_mul-labels c =
+pub overflow_mul-label : goal.overflow_mul-label
+overflow_mul-label c =
     let p = place_in c.args.columns (length c.args.labels.now) c.loop-k.k c.args.j c.loop-k-test.true c.requires.0 in
     record { fits = omega (arith, p, c.requires.1) }
 
-pub overflow_add-labels : goal.overflow_add-labels
-overflow_add-labels c =
+pub overflow_add-label : goal.overflow_add-label
+overflow_add-label c =
     let p = place_in c.args.columns (length c.args.labels.now) c.loop-k.k c.args.j c.loop-k-test.true c.requires.0 in
     record { fits = omega (arith, p, c.requires.1) }
 

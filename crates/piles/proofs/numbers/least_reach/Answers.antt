@@ -36,7 +36,7 @@ loop-i-preserved g c =
     let h = g.H.Chain.model c.args.chain.now in
     let all = reach h (map g.A.Code.model c.args.codes.now) in
     let next : List CodeModel = map g.A.Code.model (drop (c.loop-i.i + 1) c.args.codes.now) in
-    ap (λ (m : ℕ). least m (stage_reaches h (c.loop-i.i + 1 + 1) next)) c.lesser-reach.ensures
+    ap (λ (m : ℕ). least m (stage_reaches h (c.loop-i.i + 1 + 1) next)) c.min-reach.ensures
     ∙ reach_more g.A.Code.model c.args.codes.now c.loop-i.i h c.index-codes-i.result c.loop-i.reach c.in_ok-stage_reach.field-0 all c.index-codes-i.is c.loop-i-test.true c.in_ok-stage_reach.ensures c.loop-i.invariant
 
 pub returns : goal.returns

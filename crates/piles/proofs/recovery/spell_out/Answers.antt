@@ -1,24 +1,17 @@
-use Rattle.std.proofs.Common.{◌≡◌, ℕ, ◌+◌, ◌-◌, ◌*◌, ◌≤◌, length, get_or, take, drop, sym, ap, ◌∙◌, arith, rules}
+use Rattle.std.proofs.Common.{◌≡◌, ℕ, ◌+◌, ◌-◌, ◌*◌, ◌≤◌, length, get_or, take, drop, sym, ap, ◌∙◌, ap₂, arith, rules}
 use borrow.Rule.Slice.PartMut.{put_mid}
 use Rattle.std.proofs.lemmas.List.{length-drop, length-take, length-take-le, take_all}
-use Rattle.chains.specs.Bits.{bits_of}
+use Rattle.words.specs.Bits.{bits_of}
 use Rattle.pile_laws.specs.Build.{spelled_out}
 use Rattle.pile_laws.proofs.Messages.{symbol_room}
 use Rattle.pile_laws.proofs.Recovery.{spelled_more}
 use Rattle.piles.proofs.recovery.spell_out.Goals as goal
 
-pub slice_bounds-write_number-end : goal.slice_bounds-write_number-end
-slice_bounds-write_number-end c =
+pub slice_bounds-write_bits-end : goal.slice_bounds-write_bits-end
+slice_bounds-write_bits-end c =
     let room = symbol_room c.args.width (length c.args.symbols.now) c.loop-i.i c.loop-i-test.true in
     let long = c.requires.1 in
     search rules
-
-pub write_number-requires : goal.write_number-requires
-write_number-requires c =
-    let w = c.args.width in
-    let i = c.loop-i.i in
-    let short : i * w + w - i * w ≤ 8 = omega (arith, c.requires.0) in
-    omega (arith, length-take (i * w + w - i * w) (drop (i * w) c.loop-i.bits))
 
 pub loop-i-init : goal.loop-i-init
 loop-i-init c =
@@ -32,12 +25,12 @@ loop-i-preserved c =
     let bits = c.loop-i.bits in
     let symbols = c.args.symbols.now in
     let room = symbol_room w (length symbols) i c.loop-i-test.true in
-    let ys = c.write_number.new.bits in
+    let ys = c.write_bits.new.bits in
     let span : i * w + w - i * w ≡ w = omega arith in
     let part : length (take (i * w + w - i * w) (drop (i * w) bits)) ≡ w = ap (λ (n : ℕ). length (take n (drop (i * w) bits))) span ∙ length-take-le w (drop (i * w) bits) (omega (arith, length-drop (i * w) bits, room, c.requires.1, c.loop-i.auto.bits)) in
-    let written : ys ≡ bits_of w (get_or symbols i 0) = c.write_number.ensures ∙ ap (λ (n : ℕ). bits_of n (get_or symbols i 0)) part in
+    let written : ys ≡ bits_of w (get_or symbols i 0) = c.write_bits.ensures ∙ ap₂ bits_of part c.from.ensures in
     ap (λ (n : ℕ). take ((i + 1) * w) (put_mid (i * w) n bits ys)) span
-    ∙ spelled_more w i symbols bits ys c.loop-i-test.true (omega (arith, room, c.requires.1, c.loop-i.auto.bits)) (c.write_number.auto.bits ∙ part) written c.loop-i.invariant
+    ∙ spelled_more w i symbols bits ys c.loop-i-test.true (omega (arith, room, c.requires.1, c.loop-i.auto.bits)) (c.write_bits.auto.bits ∙ part) written c.loop-i.invariant
 
 pub returns : goal.returns
 returns c =

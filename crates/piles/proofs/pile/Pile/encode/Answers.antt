@@ -4,19 +4,16 @@ use Rattle.words.specs.declared.fault.Layer.TheVariants.{Code}
 use Rattle.words.specs.Buffers.{refusal, values_below, written_to}
 use Rattle.words.proofs.Rises.{checked_ok}
 use Rattle.codes.specs.Model.{CodeModel}
-use Rattle.codes.proofs.Working.{message_fits}
+use Rattle.codes.proofs.Working.{encode_passes, message_fits}
 use Rattle.pile_laws.specs.Pile.{pile}
 use Rattle.pile_laws.proofs.Scans.{codes_many}
 use Rattle.piles.specs.Sound.{SoundPile}
 use Rattle.piles.proofs.pile.Pile.encode.Goals as goal
 
-pub count_bits-requires : goal.count_bits-requires
-count_bits-requires g c =
+pub parameters-requires : goal.parameters-requires
+parameters-requires g c =
     let self = c.args.self.now in
-    let s = c.in_ok-check.ensures.sound in
-    let codes = take self.used self.stages in
-    let h = g.H.Chain.model self.chain in
-    (subst (AllByRecursion g.A.Code.sound) (sym c.codes-codes.ensures) s.1, omega (arith, ap length c.codes-codes.ensures, codes_many g.A.Code.model codes h s.2, (g.met.H.Chain.lawful self.chain s.0).few_stages))
+    subst (SoundPile (g.H.Chain.sound self.chain) (g.H.Chain.model self.chain) g.A.Code.model g.A.Code.sound) (sym c.codes-codes.ensures) c.in_ok-check.ensures.sound
 
 pub write_codeword-requires : goal.write_codeword-requires
 write_codeword-requires g c =
@@ -27,7 +24,7 @@ write_codeword-requires g c =
     let message = c.args.message.now in
     let word = c.args.word.now in
     let cs : List CodeModel = map model codes in
-    let none : refusal Code (values_below 2 (pile h cs).message_len message ∷ written_to (pile h cs).len word ∷ []) ≡ None = subst₂ (λ (k n : ℕ). refusal Code (values_below 2 k message ∷ written_to n word ∷ []) ≡ None) c.count_bits.ensures c.count_cells.ensures.value (checked_ok _ c.in_ok-check_encode.ensures) in
+    let none = encode_passes (pile h cs) c.parameters.ensures message word c.in_ok-check_encode.ensures in
     let fit = message_fits (pile h cs) message word none in
     record {
       parts = subst (SoundPile (g.H.Chain.sound self.chain) h model g.A.Code.sound) (sym c.codes-codes.ensures) c.in_ok-check.ensures.sound;

@@ -4,20 +4,17 @@ use Rattle.words.specs.declared.fault.Layer.TheVariants.{Code}
 use Rattle.words.specs.Buffers.{refusal, values_below, written_to}
 use Rattle.words.proofs.Rises.{checked_ok}
 use Rattle.codes.specs.Model.{CodeModel}
-use Rattle.codes.proofs.Working.{word_fits}
+use Rattle.codes.proofs.Working.{message_of_passes, word_fits}
 use Rattle.pile_laws.specs.Pile.{pile}
 use Rattle.pile_laws.proofs.Law.{pile_lawful}
 use Rattle.pile_laws.proofs.Scans.{codes_many, each_lawful}
 use Rattle.piles.specs.Sound.{SoundPile}
 use Rattle.piles.proofs.pile.Pile.message_of.Goals as goal
 
-pub count_bits-requires : goal.count_bits-requires
-count_bits-requires g c =
+pub parameters-requires : goal.parameters-requires
+parameters-requires g c =
     let self = c.args.self.now in
-    let s = c.in_ok-check.ensures.sound in
-    let codes = take self.used self.stages in
-    let h = g.H.Chain.model self.chain in
-    (subst (AllByRecursion g.A.Code.sound) (sym c.codes-codes.ensures) s.1, omega (arith, ap length c.codes-codes.ensures, codes_many g.A.Code.model codes h s.2, (g.met.H.Chain.lawful self.chain s.0).few_stages))
+    subst (SoundPile (g.H.Chain.sound self.chain) (g.H.Chain.model self.chain) g.A.Code.model g.A.Code.sound) (sym c.codes-codes.ensures) c.in_ok-check.ensures.sound
 
 pub recover-requires : goal.recover-requires
 recover-requires g c =
@@ -29,7 +26,7 @@ recover-requires g c =
     let word = c.args.word.now in
     let cs : List CodeModel = map model codes in
     let parts = subst (SoundPile (g.H.Chain.sound self.chain) h model g.A.Code.sound) (sym c.codes-codes.ensures) c.in_ok-check.ensures.sound in
-    let none : refusal Code (written_to (pile h cs).message_len message ∷ values_below 2 (pile h cs).len word ∷ []) ≡ None = subst₂ (λ (k n : ℕ). refusal Code (written_to k message ∷ values_below 2 n word ∷ []) ≡ None) c.count_bits.ensures c.count_cells.ensures.value (checked_ok _ c.in_ok-check_message_of.ensures) in
+    let none = message_of_passes (pile h cs) c.parameters.ensures message word c.in_ok-check_message_of.ensures in
     let fit = word_fits (pile h cs) message word none in
     let law = pile_lawful h (g.met.H.Chain.lawful self.chain parts.0) cs (each_lawful model g.A.Code.sound codes g.met.A.Code.lawful parts.1) parts.2 in
     record {
