@@ -16,25 +16,7 @@ use codes::code::Code;
 use stages::choice::choose;
 use words::fault::{Fault, Kind, Layer};
 use words::harms::harm;
-use words::limits::MOST_STAGES;
-
-/// The same as `estimate_column`, with room for the labels.
-fn estimate_labels<H: Chain>(
-    chain: &H,
-    words: &[u8],
-    columns: usize,
-    j: usize,
-    labels: &mut [u8],
-    cells: &[u8],
-    marks: &[u8],
-) -> Result<Option<Estimate>, Fault>
-    requires chain { (H.Chain.sound chain.now) × ((Stage (H.Chain.model chain.now) (suc (length labels.old))) × ((Cells (H.Chain.model chain.now).breadth cells.now) × (Cells (H.Chain.model chain.now).breadth marks.now))) }
-    requires words { (j < columns) × ((columns * length labels.old ≤ length words.now) × (LabelsFrom (H.Chain.model chain.now).width 1 (labels_at (words_in columns (length labels.old) words.now) j))) }
-    ensures { MatchResult result (λ e. Estimates (H.Chain.model chain.now) (suc (length labels.old)) (labels_at (words_in columns (length labels.old) words.now) j) cells.now marks.now e) (λ _. ⊥) }
-{
-    gather(words, columns, j, labels);
-    chain.estimate(labels.len() + 1, labels, cells, marks)
-}
+use words::limits::{MOST_CELLS, MOST_STAGES};
 
 /// The estimate of column j behind the stages that have chosen.
 fn estimate_column<H: Chain>(
@@ -50,16 +32,10 @@ fn estimate_column<H: Chain>(
     requires words { (j < columns) × ((columns * chosen ≤ length words.now) × (LabelsFrom (H.Chain.model chain.now).width 1 (labels_at (words_in columns chosen words.now) j))) }
     ensures { MatchResult result (λ e. Estimates (H.Chain.model chain.now) (suc chosen) (labels_at (words_in columns chosen words.now) j) cells.now marks.now e) (λ _. ⊥) }
 {
-    let mut labels = [0; MOST_STAGES];
-    estimate_labels(
-        chain,
-        words,
-        columns,
-        j,
-        &mut labels[0..chosen],
-        cells,
-        marks,
-    )
+    let mut room = [0; MOST_STAGES];
+    let labels = &mut room[..chosen];
+    gather(words, columns, j, labels);
+    chain.estimate(chosen + 1, labels, cells, marks)
 }
 
 /// The estimates of all columns behind the stages that have chosen.
@@ -96,33 +72,6 @@ fn estimate_columns<H: Chain>(
     Ok(())
 }
 
-/// The same as `choose_stage`, with room for the estimates.
-fn choose_in<H: Chain, A: Code>(
-    chain: &H,
-    codes: &[A],
-    chosen: usize,
-    columns: usize,
-    word: &[u8],
-    marks: &[u8],
-    words: &mut [u8],
-    estimates: &mut [Option<Estimate>],
-) -> Result<(), Fault>
-    requires parts { SoundPile (H.Chain.sound chain.now) (H.Chain.model chain.now) A.Code.model A.Code.sound codes.now }
-    requires columns { (columns ≡ columns_of (map A.Code.model codes.now)) × ((columns ≤ 4096) × (length estimates.old ≡ columns)) }
-    requires word { ReadWord (H.Chain.model chain.now) columns word.now marks.now }
-    requires stage { (chosen < length codes.now) × ((columns * length codes.now ≤ length words.old) × (Choices (H.Chain.model chain.now) (map A.Code.model codes.now) word.now marks.now (words_in columns chosen words.old))) }
-    ensures { Chooses (H.Chain.model chain.now) (map A.Code.model codes.now) columns chosen word.now marks.now words.old words.new result }
-{
-    estimate_columns(chain, chosen, words, columns, word, marks, estimates)?;
-    let inner = chain.distance(chosen + 1)?;
-    let start = columns * chosen;
-    let part = &mut words[start..start + columns];
-    match choose(&codes[chosen], inner as u8, estimates, part)? {
-        Some(_) => Ok(()),
-        None => Err(Fault::new(Kind::NoCodeword, Layer::Code, chosen + 1)),
-    }
-}
-
 /// Puts a stage's choice behind those of the stages before it.
 fn choose_stage<H: Chain, A: Code>(
     chain: &H,
@@ -139,17 +88,16 @@ fn choose_stage<H: Chain, A: Code>(
     requires stage { (chosen < length codes.now) × ((columns * length codes.now ≤ length words.old) × (Choices (H.Chain.model chain.now) (map A.Code.model codes.now) word.now marks.now (words_in columns chosen words.old))) }
     ensures { Chooses (H.Chain.model chain.now) (map A.Code.model codes.now) columns chosen word.now marks.now words.old words.new result }
 {
-    let mut estimates = [None; 4096];
-    choose_in(
-        chain,
-        codes,
-        chosen,
-        columns,
-        word,
-        marks,
-        words,
-        &mut estimates[0..columns],
-    )
+    let mut room = [None; MOST_CELLS];
+    let estimates = &mut room[..columns];
+    estimate_columns(chain, chosen, words, columns, word, marks, estimates)?;
+    let inner = chain.distance(chosen + 1)?;
+    let start = columns * chosen;
+    let part = &mut words[start..start + columns];
+    match choose(&codes[chosen], inner as u8, estimates, part)? {
+        Some(_) => Ok(()),
+        None => Err(Fault::new(Kind::NoCodeword, Layer::Code, chosen + 1)),
+    }
 }
 
 /// The choices of all stages, one behind the other, or 12 with the first stage that has none.

@@ -1,9 +1,10 @@
-use Rattle.std.proofs.Common.{◌≡◌, ℕ, suc, ◌+◌, ◌-◌, ◌*◌, ◌<◌, ◌≤◌, List, map, length, take, drop, Ok, Err, sym, refl, ap, ◌∙◌, subst, add-one, arith, rules}
+use Rattle.std.proofs.Common.{◌≡◌, ℕ, suc, ◌+◌, ◌-◌, ◌*◌, ◌<◌, ◌≤◌, List, map, length, take, drop, replicate, Option, None, Ok, Err, sym, refl, ap, ◌∙◌, subst, add-one, arith, rules}
 use Rattle.std.proofs.ByRecursion.{All-get_or}
 use Rattle.std.proofs.lemmas.List.{length-drop, length-take-le}
 use Rattle.words.specs.declared.fault.Kind.TheVariants.{NoCodeword}
 use Rattle.words.specs.declared.fault.Layer.TheVariants.{Code}
 use Rattle.words.specs.Faults.{fault}
+use Rattle.chains.specs.declared.chain.Estimate.{Estimate}
 use Rattle.chains.specs.Model.{Stage}
 use Rattle.chains.specs.FromLaw.{within}
 use Rattle.codes.specs.Model.{CodeModel}
@@ -11,7 +12,10 @@ use Rattle.pile_laws.proofs.Calls.{stage_never, stage_number}
 use Rattle.pile_laws.proofs.Flat.{part_in}
 use Rattle.pile_laws.proofs.Scans.{codes_many, each_lawful, length_models, model_at}
 use Rattle.pile_laws.proofs.Stepping.{labels_chosen, stage_answers, stage_chosen, stage_without}
-use Rattle.piles.proofs.choices.choose_in.Goals as goal
+use Rattle.piles.proofs.choices.choose_stage.Goals as goal
+
+room_long : (n : ℕ) → n ≤ 4096 → length (take n (replicate {A = Option Estimate} 4096 None)) ≡ n
+room_long n few = length-take-le n (replicate {A = Option Estimate} 4096 None) few
 
 pub estimate_columns-requires : goal.estimate_columns-requires
 estimate_columns-requires g c =
@@ -27,7 +31,7 @@ estimate_columns-requires g c =
       chain = (c.requires.parts.0, (omega arith, omega (arith, many, c.requires.stage.0)));
       word = c.requires.word;
       words = (omega (arith, room, c.requires.stage.1.0), labels_chosen h cs laws c.requires.parts.2 c.args.word.now c.args.marks.now c.args.columns c.requires.columns.0 c.args.chosen c.args.words.now c.requires.stage.1.1 less);
-      estimates = c.requires.columns.1.1;
+      estimates = room_long c.args.columns c.requires.columns.1;
     }
 
 pub returns-in_err-inner : goal.returns-in_err-inner
@@ -76,7 +80,7 @@ returns-in_err-choose g c =
     let long : length c.choose.new.word ≡ n = c.choose.auto.word ∙ part in
     let sound = subst g.A.Code.sound (sym c.index-codes-chosen.is) (All-get_or g.A.Code.sound codes k a c.requires.stage.0 c.requires.parts.1) in
     let es = c.estimate_columns.new.estimates in
-    let les : length es ≡ n = c.estimate_columns.auto.estimates ∙ c.requires.columns.1.1 in
+    let les : length es ≡ n = c.estimate_columns.auto.estimates ∙ room_long n c.requires.columns.1 in
     let each = c.in_ok-estimate_columns.ensures in
     let is = model_at model codes k a c.requires.stage.0 c.index-codes-chosen.is in
     absurd (stage_answers h cs laws c.requires.parts.2 c.args.word.now c.args.marks.now n c.requires.columns.0 k row c.requires.stage.1.1 few es les each (model a) is c.in_ok-inner.inner distance fits span width c.choose.new.word long (Err c.in_err-choose.field-0.0) (c.in_err-choose.ensures.sound sound) c.in_err-choose.field-0.0 refl)
@@ -105,7 +109,7 @@ returns-in-Some g c =
     let long : length c.choose.new.word ≡ n = c.choose.auto.word ∙ part in
     let sound = subst g.A.Code.sound (sym c.index-codes-chosen.is) (All-get_or g.A.Code.sound codes k a c.requires.stage.0 c.requires.parts.1) in
     let es = c.estimate_columns.new.estimates in
-    let les : length es ≡ n = c.estimate_columns.auto.estimates ∙ c.requires.columns.1.1 in
+    let les : length es ≡ n = c.estimate_columns.auto.estimates ∙ room_long n c.requires.columns.1 in
     let each = c.in_ok-estimate_columns.ensures in
     let is = model_at model codes k a c.requires.stage.0 c.index-codes-chosen.is in
     stage_chosen h cs laws c.requires.parts.2 c.args.word.now c.args.marks.now n c.requires.columns.0 k row c.requires.stage.1.1 few es les each (model a) is c.in_ok-inner.inner distance fits span width c.choose.new.word long (Ok c.in_ok-choose.field-0) (c.in_ok-choose.ensures.sound sound) c.in-Some.field-0 (ap Ok c.in-Some.is)
@@ -134,7 +138,7 @@ returns-in-None g c =
     let long : length c.choose.new.word ≡ n = c.choose.auto.word ∙ part in
     let sound = subst g.A.Code.sound (sym c.index-codes-chosen.is) (All-get_or g.A.Code.sound codes k a c.requires.stage.0 c.requires.parts.1) in
     let es = c.estimate_columns.new.estimates in
-    let les : length es ≡ n = c.estimate_columns.auto.estimates ∙ c.requires.columns.1.1 in
+    let les : length es ≡ n = c.estimate_columns.auto.estimates ∙ room_long n c.requires.columns.1 in
     let each = c.in_ok-estimate_columns.ensures in
     let is = model_at model codes k a c.requires.stage.0 c.index-codes-chosen.is in
     (c.new.ensures ∙ ap (λ (i : ℕ). fault NoCodeword Code i) (add-one k), stage_without h cs laws c.requires.parts.2 c.args.word.now c.args.marks.now n c.requires.columns.0 k row c.requires.stage.1.1 few es les each (model a) is c.in_ok-inner.inner distance fits span width c.choose.new.word long (Ok c.in_ok-choose.field-0) (c.in_ok-choose.ensures.sound sound) (ap Ok c.in-None.is))
