@@ -55,10 +55,10 @@ fn estimate_columns<H: Chain>(
     ensures { MatchResult result (λ _. EstimatedColumns (H.Chain.model chain.now) columns chosen words.now word.now marks.now estimates.new) (λ _. ⊥) }
 {
     let breadth = chain.breadth();
-    for j in 0..columns {
+    for (j, estimate) in estimates.iter_mut().enumerate() {
         let start = breadth * j;
         let end = start + breadth;
-        let estimate = estimate_column(
+        let found = estimate_column(
             chain,
             chosen,
             words,
@@ -67,7 +67,7 @@ fn estimate_columns<H: Chain>(
             &word[start..end],
             &marks[start..end],
         )?;
-        estimates[j] = estimate;
+        *estimate = found;
     }
     Ok(())
 }

@@ -24,6 +24,7 @@ use chains::chain::Chain;
 use codes::checks::Parameters;
 use codes::code::Code;
 use words::fault::{Fault, Kind, Layer};
+use words::limits::MOST_CELLS;
 
 /// The most labels of a pile: five for each of 4,096 columns.
 const MOST_LABELS: usize = 20480;
@@ -101,24 +102,6 @@ fn parameters<H: Chain, A: Code>(chain: &H, codes: &[A]) -> Parameters
     }
 }
 
-/// The same as `write_codeword`, with room for the stages' codewords.
-fn write_in<H: Chain, A: Code>(
-    chain: &H,
-    codes: &[A],
-    message: &[u8],
-    words: &mut [u8],
-    word: &mut [u8],
-) -> Result<(), Fault>
-    requires parts { SoundPile (H.Chain.sound chain.now) (H.Chain.model chain.now) A.Code.model A.Code.sound codes.now }
-    requires message { Message (pile (H.Chain.model chain.now) (map A.Code.model codes.now)) message.now }
-    requires word { (length word.old ≡ (H.Chain.model chain.now).breadth * columns_of (map A.Code.model codes.now)) × (20480 ≤ length words.old) }
-    ensures { MatchResult result (λ _. word.new ≡ (pile (H.Chain.model chain.now) (map A.Code.model codes.now)).codeword message.now) (λ _. ⊥) }
-{
-    let columns = count_columns(codes);
-    encode_stages(codes, message, columns, words)?;
-    lay_columns(chain, words, columns, word)
-}
-
 /// Writes the codeword of a message.
 fn write_codeword<H: Chain, A: Code>(
     chain: &H,
@@ -131,27 +114,10 @@ fn write_codeword<H: Chain, A: Code>(
     requires word { length word.old ≡ (H.Chain.model chain.now).breadth * columns_of (map A.Code.model codes.now) }
     ensures { MatchResult result (λ _. word.new ≡ (pile (H.Chain.model chain.now) (map A.Code.model codes.now)).codeword message.now) (λ _. ⊥) }
 {
-    let mut words = [0; MOST_LABELS];
-    write_in(chain, codes, message, &mut words, word)
-}
-
-/// The same as `replace`, with room to work in.
-fn replace_in<H: Chain, A: Code>(
-    chain: &H,
-    codes: &[A],
-    word: &mut [u8],
-    marks: &[u8],
-    words: &mut [u8],
-    found: &mut [u8],
-) -> Result<usize, Fault>
-    requires parts { SoundPile (H.Chain.sound chain.now) (H.Chain.model chain.now) A.Code.model A.Code.sound codes.now }
-    requires word { (refusal the_code (correct_buffers (pile (H.Chain.model chain.now) (map A.Code.model codes.now)) 2 word.old marks.now) ≡ None) × ((length found.old ≡ length word.old) × (20480 ≤ length words.old)) }
-    ensures { Corrected (pile (H.Chain.model chain.now) (map A.Code.model codes.now)) word.old marks.now word.new result }
-{
     let columns = count_columns(codes);
-    let harm = find(chain, codes, columns, word, marks, words, found)?;
-    word.copy_from_slice(found);
-    Ok(harm)
+    let mut words = [0; MOST_LABELS];
+    encode_stages(codes, message, columns, &mut words)?;
+    lay_columns(chain, &words, columns, word)
 }
 
 /// Refuses a word that lies at some harm from the codeword found.
@@ -249,10 +215,13 @@ fn replace<H: Chain, A: Code>(
     requires word { (refusal the_code (correct_buffers (pile (H.Chain.model chain.now) (map A.Code.model codes.now)) 2 word.old marks.now) ≡ None) × (length word.old ≤ 4096) }
     ensures { Corrected (pile (H.Chain.model chain.now) (map A.Code.model codes.now)) word.old marks.now word.new result }
 {
-    let cells = word.len();
+    let columns = count_columns(codes);
     let mut words = [0; MOST_LABELS];
-    let mut found = [0; 4096];
-    replace_in(chain, codes, word, marks, &mut words, &mut found[0..cells])
+    let mut room = [0; MOST_CELLS];
+    let found = &mut room[..word.len()];
+    let harm = find(chain, codes, columns, word, marks, &mut words, found)?;
+    word.copy_from_slice(found);
+    Ok(harm)
 }
 
 impl<H: Chain, A: Code> Pile<H, A> {

@@ -1,4 +1,5 @@
 use Rattle.std.proofs.Common.{◌≡◌, ℕ, ◌*◌, ◌≤◌, List, map, length, sym, ap, ◌∙◌, subst, mul-le-mul, arith}
+use Rattle.std.proofs.lemmas.List.{length-replicate}
 use Rattle.chains.specs.Model.{Row}
 use Rattle.codes.specs.Model.{CodeModel}
 use Rattle.pile_laws.specs.Build.{columns, labels_at, laid, stage_words}
@@ -8,7 +9,7 @@ use Rattle.pile_laws.proofs.Calls.{cases_with}
 use Rattle.pile_laws.proofs.Encoding.{rows_encoded}
 use Rattle.pile_laws.proofs.Fitting.{each_long, fitting}
 use Rattle.pile_laws.proofs.Scans.{codes_many, each_lawful}
-use Rattle.piles.proofs.pile.write_in.Goals as goal
+use Rattle.piles.proofs.pile.write_codeword.Goals as goal
 
 pub encode_stages-requires : goal.encode_stages-requires
 encode_stages-requires g c =
@@ -24,7 +25,7 @@ encode_stages-requires g c =
     record {
       codes = (c.requires.parts.1, (few, subst (λ (m : ℕ). EachLong m cs) (sym c.count_columns-columns.ensures.value) (each_long h (columns cs) 1 cs (fitting h cs c.requires.parts.2).0)));
       message = (c.requires.message.0, c.requires.message.1);
-      room = omega (arith, room, c.requires.word.1);
+      room = omega (arith, room, length-replicate {A = ℕ} 20480 0);
     }
 
 pub lay_columns-requires : goal.lay_columns-requires
@@ -42,7 +43,7 @@ lay_columns-requires g c =
     let room = mul-le-mul {n₁ = n} {m₁ = h.stages} {n₂ = 4096} {m₂ = 5} c.count_columns-columns.ensures.bound law.few_stages in
     let row = c.encode_stages.new.words in
     let words_are : words_in n h.stages row ≡ stage_words cs c.args.message.now = ap (λ (s : ℕ). words_in n s row) (sym many) ∙ c.in_ok-encode_stages.ensures in
-    (c.requires.parts.0, (omega (arith, room, c.requires.word.1, c.encode_stages.auto.words), (c.requires.word.0 ∙ ap (λ (m : ℕ). h.breadth * m) (sym value), λ j l. subst (λ (ws : List (List ℕ)). Row h (labels_at ws j)) (sym words_are) (rows_encoded h law cs laws c.requires.parts.2 c.args.message.now c.requires.message j (omega (arith, value))))))
+    (c.requires.parts.0, (omega (arith, room, length-replicate {A = ℕ} 20480 0, c.encode_stages.auto.words), (c.requires.word ∙ ap (λ (m : ℕ). h.breadth * m) (sym value), λ j l. subst (λ (ws : List (List ℕ)). Row h (labels_at ws j)) (sym words_are) (rows_encoded h law cs laws c.requires.parts.2 c.args.message.now c.requires.message j (omega (arith, value))))))
 
 pub returns : goal.returns
 returns g c =

@@ -1,4 +1,5 @@
-use Rattle.std.proofs.Common.{◌≡◌, ℕ, ◌*◌, ◌≤◌, List, map, length, Ok, Err, sym, ap, ◌∙◌, subst, mul-le-mul, arith}
+use Rattle.std.proofs.Common.{◌≡◌, ℕ, ◌*◌, ◌≤◌, List, map, length, replicate, Ok, Err, sym, ap, ◌∙◌, subst, mul-le-mul, arith}
+use Rattle.std.proofs.lemmas.List.{length-replicate, length-take-le}
 use Rattle.words.specs.declared.fault.Fault.{Fault}
 use Rattle.words.proofs.Rises.{raised}
 use Rattle.codes.specs.Model.{CodeModel}
@@ -10,7 +11,7 @@ use Rattle.pile_laws.specs.Pile.{pile}
 use Rattle.pile_laws.proofs.Answers.{pile_answers, pile_refuses}
 use Rattle.pile_laws.proofs.Flat.{length_words_in}
 use Rattle.pile_laws.proofs.Scans.{codes_many, each_lawful, length_models}
-use Rattle.piles.proofs.pile.replace_in.Goals as goal
+use Rattle.piles.proofs.pile.replace.Goals as goal
 
 pub find-requires : goal.find-requires
 find-requires g c =
@@ -27,8 +28,8 @@ find-requires g c =
     record {
       parts = c.requires.parts;
       columns = (c.count_columns-columns.ensures.value, c.count_columns-columns.ensures.bound);
-      word = (((fit.0.0 ∙ cells, fit.0.1), (fit.1.0 ∙ cells, fit.1.1)), c.requires.word.1.0);
-      room = omega (arith, room, c.requires.word.1.1);
+      word = (((fit.0.0 ∙ cells, fit.0.1), (fit.1.0 ∙ cells, fit.1.1)), length-take-le (length c.args.word.now) (replicate {A = ℕ} 4096 0) c.requires.word.1);
+      room = omega (arith, room, length-replicate {A = ℕ} 20480 0);
     }
 
 pub returns-in_err-harm : goal.returns-in_err-harm
