@@ -152,29 +152,6 @@ fn recognize<H: Chain, A: Code>(
     }
 }
 
-/// The same as `recover`, with room to work in.
-fn recover_in<H: Chain, A: Code>(
-    chain: &H,
-    codes: &[A],
-    word: &[u8],
-    message: &mut [u8],
-    marks: &[u8],
-    words: &mut [u8],
-    found: &mut [u8],
-    bits: &mut [u8],
-) -> Result<(), Fault>
-    requires parts { SoundPile (H.Chain.sound chain.now) (H.Chain.model chain.now) A.Code.model A.Code.sound codes.now }
-    requires word { (refusal the_code (message_of_buffers (pile (H.Chain.model chain.now) (map A.Code.model codes.now)) 2 message.old word.now) ≡ None) × (marks.now ≡ replicate (length word.now) 0) }
-    requires room { (length found.old ≡ length word.now) × ((20480 ≤ length words.old) × (length bits.old ≡ length message.old)) }
-    ensures { Recovered (pile (H.Chain.model chain.now) (map A.Code.model codes.now)) word.now message.old message.new result }
-{
-    let columns = count_columns(codes);
-    recognize(chain, codes, columns, word, marks, words, found)?;
-    recover_stages(codes, columns, words, bits)?;
-    message.copy_from_slice(bits);
-    Ok(())
-}
-
 /// Writes the message of a codeword, and refuses any other word with 12 at place 0.
 fn recover<H: Chain, A: Code>(
     chain: &H,
@@ -186,22 +163,21 @@ fn recover<H: Chain, A: Code>(
     requires word { (refusal the_code (message_of_buffers (pile (H.Chain.model chain.now) (map A.Code.model codes.now)) 2 message.old word.now) ≡ None) × ((length word.now ≤ 4096) × (length message.old ≤ 4096)) }
     ensures { Recovered (pile (H.Chain.model chain.now) (map A.Code.model codes.now)) word.now message.old message.new result }
 {
-    let cells = word.len();
-    let count = message.len();
-    let marks = [0; 4096];
+    let columns = count_columns(codes);
+    let marks = [0; MOST_CELLS];
     let mut words = [0; MOST_LABELS];
-    let mut found = [0; 4096];
-    let mut bits = [0; 4096];
-    recover_in(
+    let mut room = [0; MOST_CELLS];
+    let found = &mut room[..word.len()];
+    recognize(
         chain,
         codes,
+        columns,
         word,
-        message,
-        &marks[0..cells],
+        &marks[..word.len()],
         &mut words,
-        &mut found[0..cells],
-        &mut bits[0..count],
-    )
+        found,
+    )?;
+    recover_stages(codes, columns, &words, message)
 }
 
 /// Puts the codeword at harm below the reach in place of a word and answers its harm, or refuses with 12.

@@ -1,16 +1,69 @@
-use Rattle.std.proofs.Common.{◌≡◌, ℕ, ◌-◌, ◌≤◌, length, take, replicate, ap, ◌∙◌, arith}
-use Rattle.std.proofs.lemmas.List.{length-replicate, take-replicate}
+use Rattle.std.proofs.Common.{◌≡◌, ℕ, ◌*◌, ◌≤◌, List, map, length, replicate, Ok, Err, Result, MatchResult, sym, ap, ◌∙◌, subst, mul-le-mul, arith}
+use Rattle.std.proofs.lemmas.List.{length-replicate, length-take-le, take-replicate}
+use Rattle.words.specs.declared.fault.Fault.{Fault}
+use Rattle.codes.specs.Model.{CodeModel}
+use Rattle.codes.specs.Promises.{Recovered}
+use Rattle.codes.proofs.Working.{recovered, word_fits}
+use Rattle.pile_laws.specs.Build.{columns, encoded, joined_bits, laid}
+use Rattle.pile_laws.specs.Fit.{EachLong}
+use Rattle.pile_laws.specs.Flat.{words_in}
+use Rattle.pile_laws.specs.Pile.{pile}
+use Rattle.pile_laws.proofs.Fitting.{each_long, fitting}
+use Rattle.pile_laws.proofs.Messages.{EachMessage}
+use Rattle.pile_laws.proofs.Outcomes.{message_of_words}
+use Rattle.pile_laws.proofs.Scans.{codes_many}
 use Rattle.piles.proofs.pile.recover.Goals as goal
 
-zeros : (k : ℕ) → k ≤ 4096 → take (k - 0) (replicate {A = ℕ} 4096 0) ≡ replicate k 0
-zeros k l = let same : k - 0 ≡ k = omega arith in ap (λ (i : ℕ). take i (replicate {A = ℕ} 4096 0)) same ∙ take-replicate k 4096 0 l
-
-pub recover_in-requires : goal.recover_in-requires
-recover_in-requires g c =
-    let cells = length c.args.word.now in
-    let bits = length c.args.message.now in
+pub recognize-requires : goal.recognize-requires
+recognize-requires g c =
+    let model = g.A.Code.model in
+    let codes = c.args.codes.now in
+    let h = g.H.Chain.model c.args.chain.now in
+    let cs : List CodeModel = map model codes in
+    let fit = word_fits (pile h cs) c.args.message.now c.args.word.now c.requires.word.0 in
+    let word = c.args.word.now in
+    let short : length word ≤ 4096 = c.requires.word.1.0 in
+    let cells : h.breadth * columns cs ≡ h.breadth * c.count_columns-columns.result = ap (λ (m : ℕ). h.breadth * m) (sym c.count_columns-columns.ensures.value) in
     record {
       parts = c.requires.parts;
-      word = (c.requires.word.0, zeros cells c.requires.word.1.0);
-      room = (ap length (zeros cells c.requires.word.1.0) ∙ length-replicate {A = ℕ} cells 0, (omega (arith, length-replicate {A = ℕ} 20480 0), ap length (zeros bits c.requires.word.1.1) ∙ length-replicate {A = ℕ} bits 0));
+      columns = (c.count_columns-columns.ensures.value, c.count_columns-columns.ensures.bound);
+      word = ((fit.0.0 ∙ cells, fit.0.1), (take-replicate (length word) 4096 0 short, (length-take-le (length word) (replicate {A = ℕ} 4096 0) short, omega (arith, length-replicate {A = ℕ} 20480 0))));
     }
+
+pub recover_stages-requires : goal.recover_stages-requires
+recover_stages-requires g c =
+    let model = g.A.Code.model in
+    let codes = c.args.codes.now in
+    let chain = c.args.chain.now in
+    let h = g.H.Chain.model chain in
+    let cs : List CodeModel = map model codes in
+    let law = g.met.H.Chain.lawful chain c.requires.parts.0 in
+    let n = c.count_columns-columns.result in
+    let few : length codes ≤ 5 = omega (arith, codes_many model codes h c.requires.parts.2, law.few_stages) in
+    let room = mul-le-mul {n₁ = n} {m₁ = length codes} {n₂ = 4096} {m₂ = 5} c.count_columns-columns.ensures.bound few in
+    let fit = word_fits (pile h cs) c.args.message.now c.args.word.now c.requires.word.0 in
+    record {
+      codes = (c.requires.parts.1, (few, subst (λ (m : ℕ). EachLong m cs) (sym c.count_columns-columns.ensures.value) (each_long h (columns cs) 1 cs (fitting h cs c.requires.parts.2).0)));
+      words = (omega (arith, room, length-replicate {A = ℕ} 20480 0, c.recognize.auto.words), c.in_ok-recognize.ensures.1);
+      room = fit.1;
+    }
+
+pub returns : goal.returns
+returns g c =
+    let model = g.A.Code.model in
+    let codes = c.args.codes.now in
+    let h = g.H.Chain.model c.args.chain.now in
+    let cs : List CodeModel = map model codes in
+    let word = c.args.word.now in
+    let message = c.args.message.now in
+    let bits = c.recover_stages.new.bits in
+    let n = c.count_columns-columns.result in
+    let words = words_in n (length codes) c.recognize.new.words in
+    let Found = (us : List (List ℕ)) × EachMessage cs us × (encoded cs us ≡ words) × (bits ≡ joined_bits cs us) in
+    let fine : Found → Recovered (pile h cs) word message bits (Ok tt) = λ found.
+    let us = found.0 in
+    let m = message_of_words h cs us found.1 in
+    let is : (pile h cs).codeword (joined_bits cs us) ≡ word = ap (laid h (columns cs)) (m.1 ∙ found.2) ∙ ap (λ (i : ℕ). laid h i words) (sym c.count_columns-columns.ensures.value) ∙ c.in_ok-recognize.ensures.0 in
+    subst (λ (u : List ℕ). Recovered (pile h cs) word message u (Ok tt)) (sym found.3) (recovered (pile h cs) word message (joined_bits cs us) c.requires.word.0 m.0 is) in
+    let by : (r : Result (Unit {0}) Fault) → MatchResult r (λ _. Found) (λ _. ⊥) → Recovered (pile h cs) word message bits r = λ r. elim r as (λ q. MatchResult q (λ _. Found) (λ _. ⊥) → Recovered (pile h cs) word message bits q) [ Ok t ↦ λ found. fine found | Err f ↦ λ no. absurd no ] in
+    by c.recover_stages.result c.recover_stages.ensures
