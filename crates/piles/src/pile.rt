@@ -1,5 +1,5 @@
 // A pile of a chain and its codes.
-ghost use Rattle.std.specs.Prelude.{◌≡◌, ◌*◌, ◌≤◌, map, length, take, replicate, None, MatchResult, OnOk, ◌≢◌};
+ghost use Rattle.std.specs.Prelude.{◌≡◌, ◌*◌, ◌≤◌, map, length, take, replicate, None, true, is_err, IfErr, MatchResult, OnOk, ◌≢◌};
 ghost use Rattle.words.specs.declared.fault.Kind.TheVariants.{NoCodeword};
 ghost use Rattle.words.specs.declared.fault.Layer.TheVariants.{Code as the_code};
 ghost use Rattle.words.specs.Buffers.{refusal};
@@ -12,7 +12,9 @@ ghost use Rattle.codes.proofs.Working.{correct_buffers, message_of_buffers};
 ghost use Rattle.pile_laws.specs.Build.{columns as columns_of, reach as reach_of};
 ghost use Rattle.pile_laws.specs.Pile.{pile};
 ghost use Rattle.piles.specs.Decoding.{Recognizes};
-ghost use Rattle.piles.specs.Sound.{SoundOrRefused, SoundPile, RefusesPile};
+ghost use Rattle.piles.specs.Sound.{SoundPile, RefusesPile};
+ghost use Rattle.pile_laws.proofs.Law.{pile_lawful};
+ghost use Rattle.pile_laws.proofs.Scans.{each_lawful};
 
 use crate::choices::find;
 use crate::columns::lay_columns;
@@ -200,27 +202,34 @@ fn replace<H: Chain, A: Code>(
     Ok(harm)
 }
 
-impl<H: Chain, A: Code> Pile<H, A> {
+impl<H: Chain, A: Code> Code for Pile<H, A> {
+    ghost model = { λ p. pile (H.Chain.model p.chain) (map A.Code.model (take p.used p.stages)) };
+
+    ghost sound = { λ p. SoundPile (H.Chain.sound p.chain) (H.Chain.model p.chain) A.Code.model A.Code.sound (take p.used p.stages) };
+
+    ghost refuses = { λ p. RefusesPile (H.Chain.sound p.chain) (H.Chain.model p.chain) A.Code.model A.Code.sound A.Code.refuses (take p.used p.stages) };
+
+    ghost lawful = { λ p s.
+        let codes = take p.used p.stages in
+        pile_lawful (H.Chain.model p.chain) (H.Chain.lawful p.chain s.0) (map A.Code.model codes) (each_lawful A.Code.model A.Code.sound codes A.Code.lawful s.1) s.2 };
+
     /// Refuses parts that are not sound or do not fit each other. A pile that passes is a lawful code: the codewords of different messages
     /// differ in at least as many cells as the reach, and a message is no longer than its codeword.
-    pub fn check(&self) -> Result<(), Fault>
-        ensures sound { SoundOrRefused (SoundPile (H.Chain.sound self.now.chain) (H.Chain.model self.now.chain) A.Code.model A.Code.sound (take self.now.used self.now.stages)) (RefusesPile (H.Chain.sound self.now.chain) (H.Chain.model self.now.chain) A.Code.model A.Code.sound A.Code.refuses (take self.now.used self.now.stages)) result }
+    fn check(&self) -> Result<(), Fault>
+        ensures sound { MatchResult result (λ _. SoundPile (H.Chain.sound self.now.chain) (H.Chain.model self.now.chain) A.Code.model A.Code.sound (take self.now.used self.now.stages)) (λ _. SoundPile (H.Chain.sound self.now.chain) (H.Chain.model self.now.chain) A.Code.model A.Code.sound (take self.now.used self.now.stages) → ⊥) }
+        ensures refused { IfErr result (RefusesPile (H.Chain.sound self.now.chain) (H.Chain.model self.now.chain) A.Code.model A.Code.sound A.Code.refuses (take self.now.used self.now.stages)) }
         ensures lawful { OnOk result (Lawful (pile (H.Chain.model self.now.chain) (map A.Code.model (take self.now.used self.now.stages)))) }
     {
         check_parts(&self.chain, self.codes())
     }
 
     /// The bits of a symbol: a pile's symbols are cells.
-    pub fn width(&self) -> usize
-        ensures { result ≡ 1 }
-    {
+    fn width(&self) -> usize {
         1
     }
 
     /// The cells of a codeword: a chain's cells for each column.
-    pub fn len(&self) -> usize
-        ensures { SoundPile (H.Chain.sound self.now.chain) (H.Chain.model self.now.chain) A.Code.model A.Code.sound (take self.now.used self.now.stages) → result ≡ (pile (H.Chain.model self.now.chain) (map A.Code.model (take self.now.used self.now.stages))).len }
-    {
+    fn len(&self) -> usize {
         match self.check() {
             Ok(()) => count_cells(&self.chain, self.codes()),
             Err(_) => 0,
@@ -228,9 +237,7 @@ impl<H: Chain, A: Code> Pile<H, A> {
     }
 
     /// The bits of a message.
-    pub fn message_len(&self) -> usize
-        ensures { SoundPile (H.Chain.sound self.now.chain) (H.Chain.model self.now.chain) A.Code.model A.Code.sound (take self.now.used self.now.stages) → result ≡ (pile (H.Chain.model self.now.chain) (map A.Code.model (take self.now.used self.now.stages))).message_len }
-    {
+    fn message_len(&self) -> usize {
         match self.check() {
             Ok(()) => count_bits(self.codes()),
             Err(_) => 0,
@@ -238,31 +245,18 @@ impl<H: Chain, A: Code> Pile<H, A> {
     }
 
     /// The reach: the least inner times outer distance over the stages.
-    pub fn distance(&self) -> usize
-        ensures { SoundPile (H.Chain.sound self.now.chain) (H.Chain.model self.now.chain) A.Code.model A.Code.sound (take self.now.used self.now.stages) → result ≡ (pile (H.Chain.model self.now.chain) (map A.Code.model (take self.now.used self.now.stages))).distance }
-    {
-        match self.reach() {
-            Ok(reach) => reach,
-            Err(_) => 0,
-        }
+    fn distance(&self) -> usize {
+        self.reach().unwrap_or(0)
     }
 
-    /// Writes the codeword of a message.
-    pub fn encode(&self, message: &[u8], word: &mut [u8]) -> Result<(), Fault>
-        ensures sound { SoundPile (H.Chain.sound self.now.chain) (H.Chain.model self.now.chain) A.Code.model A.Code.sound (take self.now.used self.now.stages) → Encoded (pile (H.Chain.model self.now.chain) (map A.Code.model (take self.now.used self.now.stages))) message.now word.old word.new result }
-        ensures unsound { (SoundPile (H.Chain.sound self.now.chain) (H.Chain.model self.now.chain) A.Code.model A.Code.sound (take self.now.used self.now.stages) → ⊥) → Refused (RefusesPile (H.Chain.sound self.now.chain) (H.Chain.model self.now.chain) A.Code.model A.Code.sound A.Code.refuses (take self.now.used self.now.stages)) result × (word.new ≡ word.old) }
-    {
+    fn encode(&self, message: &[u8], word: &mut [u8]) -> Result<(), Fault> {
         self.check()?;
         let codes = self.codes();
         parameters(&self.chain, codes).check_encode(message, word)?;
         write_codeword(&self.chain, codes, message, word)
     }
 
-    /// Writes the message of a codeword, and refuses any other word.
-    pub fn message_of(&self, word: &[u8], message: &mut [u8]) -> Result<(), Fault>
-        ensures sound { SoundPile (H.Chain.sound self.now.chain) (H.Chain.model self.now.chain) A.Code.model A.Code.sound (take self.now.used self.now.stages) → Recovered (pile (H.Chain.model self.now.chain) (map A.Code.model (take self.now.used self.now.stages))) word.now message.old message.new result }
-        ensures unsound { (SoundPile (H.Chain.sound self.now.chain) (H.Chain.model self.now.chain) A.Code.model A.Code.sound (take self.now.used self.now.stages) → ⊥) → Refused (RefusesPile (H.Chain.sound self.now.chain) (H.Chain.model self.now.chain) A.Code.model A.Code.sound A.Code.refuses (take self.now.used self.now.stages)) result × (message.new ≡ message.old) }
-    {
+    fn message_of(&self, word: &[u8], message: &mut [u8]) -> Result<(), Fault> {
         self.check()?;
         let codes = self.codes();
         parameters(&self.chain, codes).check_message_of(word, message)?;
@@ -271,9 +265,10 @@ impl<H: Chain, A: Code> Pile<H, A> {
 
     /// Puts the codeword at harm below the reach in place of a word and answers that harm. Refuses with 12 where there is none: at the first
     /// stage without a choice, or at 0 where all stages choose but the word that they make is too far.
-    pub fn correct(&self, word: &mut [u8], marks: &[u8]) -> Result<usize, Fault>
+    fn correct(&self, word: &mut [u8], marks: &[u8]) -> Result<usize, Fault>
         ensures sound { SoundPile (H.Chain.sound self.now.chain) (H.Chain.model self.now.chain) A.Code.model A.Code.sound (take self.now.used self.now.stages) → Corrected (pile (H.Chain.model self.now.chain) (map A.Code.model (take self.now.used self.now.stages))) word.old marks.now word.new result }
-        ensures unsound { (SoundPile (H.Chain.sound self.now.chain) (H.Chain.model self.now.chain) A.Code.model A.Code.sound (take self.now.used self.now.stages) → ⊥) → Refused (RefusesPile (H.Chain.sound self.now.chain) (H.Chain.model self.now.chain) A.Code.model A.Code.sound A.Code.refuses (take self.now.used self.now.stages)) result × (word.new ≡ word.old) }
+        ensures unsound { (SoundPile (H.Chain.sound self.now.chain) (H.Chain.model self.now.chain) A.Code.model A.Code.sound (take self.now.used self.now.stages) → ⊥) → (is_err result ≡ true) × (word.new ≡ word.old) }
+        ensures refused { (SoundPile (H.Chain.sound self.now.chain) (H.Chain.model self.now.chain) A.Code.model A.Code.sound (take self.now.used self.now.stages) → ⊥) → Refused (RefusesPile (H.Chain.sound self.now.chain) (H.Chain.model self.now.chain) A.Code.model A.Code.sound A.Code.refuses (take self.now.used self.now.stages)) result }
         ensures only { SoundPile (H.Chain.sound self.now.chain) (H.Chain.model self.now.chain) A.Code.model A.Code.sound (take self.now.used self.now.stages) → OnlyOneNear (pile (H.Chain.model self.now.chain) (map A.Code.model (take self.now.used self.now.stages))) word.old marks.now }
     {
         self.check()?;

@@ -1,4 +1,4 @@
-use Rattle.std.proofs.Common.{◌≡◌, ℕ, suc, ◌+◌, ◌-◌, ◌≤◌, List, length, take, replicate, sym, ap, ◌∙◌, subst, add-one, arith, MatchResult}
+use Rattle.std.proofs.Common.{◌≡◌, ℕ, suc, ◌-◌, ◌≤◌, List, length, take, replicate, sym, ap, ◌∙◌, subst, add-one, arith, MatchResult}
 use Rattle.std.proofs.lemmas.List.{length-take-le}
 use Rattle.chains.specs.Model.{LabelsFrom}
 use Rattle.chains.specs.Promises.{Estimated, Estimates}

@@ -1,5 +1,4 @@
-use Rattle.std.proofs.Common.{map, ap₂, arith}
-use Rattle.codes.specs.declared.checks.Parameters.{Parameters}
+use Rattle.std.proofs.Common.{ap₂, arith}
 use Rattle.pile_laws.proofs.Scans.{codes_many}
 use Rattle.piles.proofs.pile.parameters.Goals as goal
 

@@ -1,15 +1,11 @@
-use Rattle.std.proofs.Common.{◌≡◌, ℕ, List, [], ◌∷◌, map, length, take, None, sym, ap, subst, subst₂, arith}
-use Rattle.std.specs.List.{AllByRecursion}
-use Rattle.words.specs.declared.fault.Layer.TheVariants.{Code}
-use Rattle.words.specs.Buffers.{refusal, values_below, written_to}
-use Rattle.words.proofs.Rises.{checked_ok}
+use Rattle.std.proofs.Common.{List, map, sym, subst, arith}
 use Rattle.codes.specs.Model.{CodeModel}
 use Rattle.codes.proofs.Working.{message_of_passes, word_fits}
 use Rattle.pile_laws.specs.Pile.{pile}
 use Rattle.pile_laws.proofs.Law.{pile_lawful}
-use Rattle.pile_laws.proofs.Scans.{codes_many, each_lawful}
+use Rattle.pile_laws.proofs.Scans.{each_lawful}
 use Rattle.piles.specs.Sound.{SoundPile}
-use Rattle.piles.proofs.pile.Pile.message_of.Goals as goal
+use Rattle.piles.proofs.pile.PileCode.message_of.Goals as goal
 
 pub parameters-requires : goal.parameters-requires
 parameters-requires g c =

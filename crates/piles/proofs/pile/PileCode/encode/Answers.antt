@@ -1,14 +1,9 @@
-use Rattle.std.proofs.Common.{◌≡◌, ℕ, List, [], ◌∷◌, map, length, take, None, sym, ap, subst, subst₂, arith}
-use Rattle.std.specs.List.{AllByRecursion}
-use Rattle.words.specs.declared.fault.Layer.TheVariants.{Code}
-use Rattle.words.specs.Buffers.{refusal, values_below, written_to}
-use Rattle.words.proofs.Rises.{checked_ok}
+use Rattle.std.proofs.Common.{List, map, sym, subst}
 use Rattle.codes.specs.Model.{CodeModel}
 use Rattle.codes.proofs.Working.{encode_passes, message_fits}
 use Rattle.pile_laws.specs.Pile.{pile}
-use Rattle.pile_laws.proofs.Scans.{codes_many}
 use Rattle.piles.specs.Sound.{SoundPile}
-use Rattle.piles.proofs.pile.Pile.encode.Goals as goal
+use Rattle.piles.proofs.pile.PileCode.encode.Goals as goal
 
 pub parameters-requires : goal.parameters-requires
 parameters-requires g c =

@@ -1,7 +1,7 @@
 use Rattle.std.proofs.Common.{length, take, sym, ap, subst, arith}
 use Rattle.std.specs.List.{AllByRecursion}
 use Rattle.pile_laws.proofs.Scans.{codes_many}
-use Rattle.piles.proofs.pile.Pile.message_len.Goals as goal
+use Rattle.piles.proofs.pile.PileCode.message_len.Goals as goal
 
 pub count_bits-requires : goal.count_bits-requires
 count_bits-requires g c =

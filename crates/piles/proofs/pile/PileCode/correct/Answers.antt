@@ -1,7 +1,7 @@
 use Rattle.std.proofs.Common.{map, take, rules}
 use Rattle.codes.proofs.Nearness.{only_one_near}
 use Rattle.pile_laws.specs.Pile.{pile}
-use Rattle.piles.proofs.pile.Pile.correct.Goals as goal
+use Rattle.piles.proofs.pile.PileCode.correct.Goals as goal
 
 pub returns-in_err-check_correct : goal.returns-in_err-check_correct
 returns-in_err-check_correct g c =
@@ -10,6 +10,7 @@ returns-in_err-check_correct g c =
     record {
       sound = search rules;
       unsound = search rules;
+      refused = search rules;
       only = λ _. only_one_near model c.in_ok-check.ensures.lawful c.args.word.now c.args.marks.now;
     }
 
@@ -20,5 +21,6 @@ returns g c =
     record {
       sound = search rules;
       unsound = search rules;
+      refused = search rules;
       only = λ _. only_one_near model c.in_ok-check.ensures.lawful c.args.word.now c.args.marks.now;
     }
