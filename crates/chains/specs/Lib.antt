@@ -19,3 +19,4 @@ pub mod Laying
 pub mod Voting
 pub mod RowBits
 pub mod MullerColumns
+pub mod Either

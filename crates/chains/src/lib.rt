@@ -7,4 +7,5 @@ pub mod derived;
 pub mod even;
 pub mod examples;
 pub mod reed_muller;
+mod sides;
 mod tables;

@@ -4,7 +4,7 @@ use Rattle.std.proofs.lemmas.List.{take_all, take_more, take_more_set}
 use Rattle.field_laws.specs.Fields.{FieldModel}
 use Rattle.field_laws.specs.Polynomials.{polynomial}
 use Rattle.field_laws.specs.Extensions.{extension}
-use Rattle.codes.specs.declared.either.Either.TheVariants.{Left, Right}
+use Rattle.either.specs.declared.Either.TheVariants.{Left, Right}
 use Rattle.codes.specs.Kinds.{open_code, repetition_code}
 use Rattle.reed_solomon_laws.specs.Words.{reed_solomon}
 use Rattle.recipes.specs.declared.kinds.CodeKind.{CodeKind}

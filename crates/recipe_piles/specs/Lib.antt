@@ -1,3 +1,2 @@
-pub mod Either
 pub mod Made
 pub mod Parts

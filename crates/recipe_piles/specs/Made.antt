@@ -26,8 +26,8 @@ none _ = ⊥
 
 -- the code of a kind, with its width and lengths, over the field of the kind
 abbrev pub OfKind : CodeKind → ℕ → ℕ → ℕ → StageCode → Type 0
-OfKind Open width n k = of_either (of_either (λ c. (c.width ≡ width) × (c.len ≡ n)) none) (of_either none none)
-OfKind Repetition width n k = of_either (of_either none (λ c. (c.width ≡ width) × (c.len ≡ n))) (of_either none none)
+OfKind Open width n k = of_either (of_either (λ c. (c.size.width ≡ width) × (c.size.len ≡ n)) none) (of_either none none)
+OfKind Repetition width n k = of_either (of_either none (λ c. (c.size.width ≡ width) × (c.size.len ≡ n))) (of_either none none)
 OfKind ReedSolomon width n k =
     of_either (of_either none none) (of_either (λ c. (c.field.width ≡ width) × (c.len ≡ n) × (c.message_len ≡ k)) none)
 OfKind ExtendedReedSolomon width n k =

@@ -5,7 +5,7 @@ use Rattle.field_laws.specs.Polynomials.{polynomial}
 use Rattle.field_laws.specs.Extensions.{Extends, extension}
 use Rattle.fields.specs.declared.polynomial.Polynomial.{Polynomial}
 use Rattle.fields.specs.declared.extension.Extension.{Extension}
-use Rattle.codes.specs.declared.either.Either.{Either}
+use Rattle.either.specs.declared.Either.{Either}
 use Rattle.codes.specs.Either.{either_model, either_refuses, either_sound}
 use Rattle.codes.specs.Model.{CodeModel}
 use Rattle.codes.specs.declared.open.Open.{Open}
@@ -19,12 +19,11 @@ use Rattle.chains.specs.declared.even.Even.{Even}
 use Rattle.chains.specs.Model.{ChainModel}
 use Rattle.chains.specs.ReedMuller.{muller_chain}
 use Rattle.chains.specs.Even.{even_chain}
-use Rattle.recipe_piles.specs.declared.either.EitherChain.{EitherChain}
 use Rattle.recipe_piles.specs.declared.parts.Parts.{Parts}
-use Rattle.recipe_piles.specs.Either as chains
+use Rattle.chains.specs.Either as chains
 
 abbrev pub RecipeChain : Type 0
-RecipeChain = EitherChain ReedMuller Even
+RecipeChain = Either ReedMuller Even
 
 abbrev pub chain_model : RecipeChain → ChainModel
 chain_model = chains.either_chain (λ h. muller_chain h.r) (λ h. even_chain h.n)
@@ -37,7 +36,7 @@ StageCode = Either (Either Open Repetition) (Either (ReedSolomon Polynomial) (Re
 
 abbrev pub code_model : StageCode → CodeModel
 code_model =
-    either_model (either_model (λ c. open_code c.width c.len) (λ c. repetition_code c.width c.len))
+    either_model (either_model (λ c. open_code c.size.width c.size.len) (λ c. repetition_code c.size.width c.size.len))
     (either_model (λ c. reed_solomon (polynomial c.field.width) c.len c.message_len)
     (λ c. reed_solomon (extension (polynomial c.field.base.width) c.field.c) c.len c.message_len))
 

@@ -3,10 +3,10 @@ ghost use Rattle.recipes.specs.Chains.{Known};
 ghost use Rattle.recipe_pile_laws.specs.Named.{named_chain};
 ghost use Rattle.recipe_piles.specs.Made.{IsChain, Made};
 
-use crate::either::EitherChain;
 use crate::parts::RecipeChain;
 use chains::even::Even;
 use chains::reed_muller::ReedMuller;
+use either::Either;
 use recipes::kinds::ChainKind;
 use words::fault::Fault;
 
@@ -15,7 +15,7 @@ pub(crate) fn make_chain(kind: ChainKind) -> Result<RecipeChain, Fault>
     ensures { Made (IsChain (named_chain kind)) result }
 {
     match kind {
-        ChainKind::ReedMuller(r) => Ok(EitherChain::First(ReedMuller::new(r)?)),
-        ChainKind::Even(n) => Ok(EitherChain::Second(Even::new(n)?)),
+        ChainKind::ReedMuller(r) => Ok(Either::Left(ReedMuller::new(r)?)),
+        ChainKind::Even(n) => Ok(Either::Right(Even::new(n)?)),
     }
 }

@@ -8,9 +8,9 @@ ghost use Rattle.recipe_pile_laws.specs.Numbers.{Makeable};
 ghost use Rattle.recipe_piles.specs.Made.{IsCode, Lengths, Made, StageHas, StagesHave};
 
 use crate::parts::StageCode;
-use codes::either::Either;
 use codes::open::Open;
 use codes::repetition::Repetition;
+use either::Either;
 use fields::polynomial::Polynomial;
 use fields::worked::recipe_extension;
 use recipes::kinds::CodeKind;

@@ -3,6 +3,5 @@
 
 mod chains_made;
 mod codes_made;
-pub mod either;
 pub mod making;
 pub mod parts;

@@ -1,18 +1,17 @@
 // The types of the parts that recipes name.
 ghost use Rattle.std.specs.Prelude.{◌≤◌};
 
-use crate::either::EitherChain;
 use chains::even::Even;
 use chains::reed_muller::ReedMuller;
-use codes::either::Either;
 use codes::open::Open;
 use codes::repetition::Repetition;
+use either::Either;
 use fields::extension::Extension;
 use fields::polynomial::Polynomial;
 use reed_solomon::code::ReedSolomon;
 
 /// A chain that a recipe can name.
-pub type RecipeChain = EitherChain<ReedMuller, Even>;
+pub type RecipeChain = Either<ReedMuller, Even>;
 
 /// A code that a recipe can name for a stage.
 pub type StageCode = Either<
