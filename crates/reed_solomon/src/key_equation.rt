@@ -114,30 +114,6 @@ fn mark_roots(marks: &[u8], e: &[u8], skip: &mut [u8])
     }
 }
 
-/// Marks in `skip` each place but the readable ones that a solution of the key equation shows to be right. The other arrays are
-/// room to work in.
-fn locate_in<F: Field>(
-    field: &F,
-    word: &[u8],
-    marks: &[u8],
-    g: &[u8],
-    p: &[u8],
-    q0: &mut [u8],
-    e0: &mut [u8],
-    q1: &mut [u8],
-    e1: &mut [u8],
-    skip: &mut [u8],
-)
-    requires { (F.sound field.now) × ((Readings (F.model field.now) word.now marks.now g.now p.now) × ((Lengths (length word.now) q0.old e0.old q1.old e1.old) × (length skip.old ≡ length word.now))) }
-    ensures { Rightful (F.model field.now) word.now marks.now g.now p.now skip.new }
-{
-    if solve(field, word, marks, g, p, q0, e0, q1, e1) {
-        mark_roots(marks, e0, skip);
-    } else {
-        mark_roots(marks, e1, skip);
-    }
-}
-
 /// Marks in `skip` each place but the readable ones that a solution of the key equation shows to be right.
 pub(crate) fn locate<F: Field>(
     field: &F,
@@ -155,16 +131,11 @@ pub(crate) fn locate<F: Field>(
     let mut e0 = [0; 256];
     let mut q1 = [0; 256];
     let mut e1 = [0; 256];
-    locate_in(
-        field,
-        word,
-        marks,
-        g,
-        p,
-        &mut q0[0..n],
-        &mut e0[0..n],
-        &mut q1[0..n],
-        &mut e1[0..n],
-        skip,
-    )
+    let e0 = &mut e0[..n];
+    let e1 = &mut e1[..n];
+    if solve(field, word, marks, g, p, &mut q0[..n], e0, &mut q1[..n], e1) {
+        mark_roots(marks, e0, skip);
+    } else {
+        mark_roots(marks, e1, skip);
+    }
 }

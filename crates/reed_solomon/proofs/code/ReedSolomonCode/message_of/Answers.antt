@@ -22,8 +22,8 @@ recognize-requires g c =
     let model = reed_solomon f self.len k in
     let none = message_of_passes model c.elements.result c.elements.ensures c.args.message.now word c.in_ok-check_message_of.ensures in
     let fit = word_fits model c.args.message.now word none in
-    let long : length (take (k - 0) word) ≡ k = ap (λ m. length (take m word)) (omega arith) ∙ length-take-le k word (omega (arith, fit.0.0, s.1.2)) in
-    (s.0, (((omega (arith, s.1.0, fit.0.0), omega (arith, s.1.1, long), omega (arith, s.1.2, long, fit.0.0)), All-take (λ x. x < size f) (k - 0) word fit.0.1), omega (arith, s.1.0, fit.0.0, size_most f laws)))
+    let long : length (take k word) ≡ k = length-take-le k word (omega (arith, fit.0.0, s.1.2)) in
+    (s.0, (((omega (arith, s.1.0, fit.0.0), omega (arith, s.1.1, long), omega (arith, s.1.2, long, fit.0.0)), All-take (λ x. x < size f) k word fit.0.1), omega (arith, s.1.0, fit.0.0, size_most f laws)))
 
 -- the codeword of a beginning, with its lengths by other names
 same_code : (f : FieldModel) (n k m j : ℕ) (u v : List ℕ) → m ≡ n → j ≡ k → u ≡ v → (reed_solomon f m j).codeword u ≡ (reed_solomon f n k).codeword v
@@ -43,10 +43,9 @@ returns-in_err-recognize g c =
     let model = reed_solomon f n k in
     let none = message_of_passes model c.elements.result c.elements.ensures message word c.in_ok-check_message_of.ensures in
     let fit = word_fits model message word none in
-    let front : take (k - 0) word ≡ take k word = ap (λ (m : ℕ). take m word) (omega arith) in
     let long : length (take k word) ≡ k = length-take-le k word (omega (arith, fit.0.0, s.1.2)) in
     let far : (u : List ℕ) → Symbols f.width k u → (reed_solomon f n k).codeword u ≡ word → ⊥ = λ u su e.
-    c.in_err-recognize.ensures.1 (same_code f n k (length word) (length (take (k - 0) word)) (take (k - 0) word) (take k word) fit.0.0 (ap length front ∙ long) front ∙ begun f laws n k s.1 word u su e) in
+    c.in_err-recognize.ensures.1 (same_code f n k (length word) (length (take k word)) (take k word) (take k word) fit.0.0 long refl ∙ begun f laws n k s.1 word u su e) in
     record {
       sound = λ _. rw (raised _ c.from_residual-in_err-recognize.ensures.1, c.in_err-recognize.ensures.0) (unrecovered model word message none far);
       unsound = λ no. absurd (no s);
@@ -66,11 +65,10 @@ returns g c =
     let model = reed_solomon f n k in
     let none = message_of_passes model c.elements.result c.elements.ensures message word c.in_ok-check_message_of.ensures in
     let fit = word_fits model message word none in
-    let front : take (k - 0) word ≡ take k word = ap (λ (m : ℕ). take m word) (omega arith) in
     let long : length (take k word) ≡ k = length-take-le k word (omega (arith, fit.0.0, s.1.2)) in
-    let is : (reed_solomon f n k).codeword (take k word) ≡ word = sym (same_code f n k (length word) (length (take (k - 0) word)) (take (k - 0) word) (take k word) fit.0.0 (ap length front ∙ long) front) ∙ c.in_ok-recognize.ensures in
+    let is : (reed_solomon f n k).codeword (take k word) ≡ word = sym (same_code f n k (length word) (length (take k word)) (take k word) (take k word) fit.0.0 long refl) ∙ c.in_ok-recognize.ensures in
     record {
-      sound = λ _. subst (λ (u : List ℕ). Recovered model word message u (Ok tt)) (sym (c.copy_from_slice.ensures.after ∙ front)) (recovered model word message (take k word) none (long, All-take (λ x. x < size f) k word fit.0.1) is);
+      sound = λ _. subst (λ (u : List ℕ). Recovered model word message u (Ok tt)) (sym c.copy_from_slice.ensures.after) (recovered model word message (take k word) none (long, All-take (λ x. x < size f) k word fit.0.1) is);
       unsound = λ no. absurd (no s);
       refused = λ no. absurd (no s);
     }
