@@ -109,8 +109,8 @@ fn mark_roots(marks: &[u8], e: &[u8], skip: &mut [u8])
     requires { (length e.now ≡ length marks.now) × (length skip.old ≡ length marks.now) }
     ensures { Skips (length marks.now) marks.now e.now skip.new }
 {
-    for (x, mark) in marks.iter().enumerate() {
-        skip[x] = if *mark == 0 && e[x] != 0 { 0 } else { 1 };
+    for (x, y) in skip.iter_mut().enumerate() {
+        *y = u8::from(marks[x] != 0 || e[x] == 0);
     }
 }
 
