@@ -58,13 +58,20 @@ impl Pair<'_> {
 }
 
 /// Makes the other pair meet the equation at x too, by the pivot, and then multiplies the pivot by X + x.
-fn eliminate<F: Field>(field: &F, x: usize, gaps: (u8, u8), pivot: &mut Pair, other: &mut Pair)
-    requires { (F.sound field.now) × (((x < length pivot.old.q.now) × (length pivot.old.q.now ≤ field_size (F.model field.now))) × (((gaps.0 < field_size (F.model field.now)) × (gaps.1 < field_size (F.model field.now))) × (Pairs (F.model field.now) (length pivot.old.q.now) pivot.old.q.now pivot.old.e.now other.old.q.now other.old.e.now))) }
-    ensures eliminated { Eliminated (F.model field.now) (length pivot.old.q.now) x gaps.0 gaps.1 pivot.old.q.now pivot.old.e.now other.old.q.now other.old.e.now pivot.new.q.now pivot.new.e.now other.new.q.now other.new.e.now }
+fn eliminate<F: Field>(
+    field: &F,
+    x: usize,
+    gap: u8,
+    pivot: &mut Pair,
+    other_gap: u8,
+    other: &mut Pair,
+)
+    requires { (F.sound field.now) × (((x < length pivot.old.q.now) × (length pivot.old.q.now ≤ field_size (F.model field.now))) × (((gap < field_size (F.model field.now)) × (other_gap < field_size (F.model field.now))) × (Pairs (F.model field.now) (length pivot.old.q.now) pivot.old.q.now pivot.old.e.now other.old.q.now other.old.e.now))) }
+    ensures eliminated { Eliminated (F.model field.now) (length pivot.old.q.now) x gap other_gap pivot.old.q.now pivot.old.e.now other.old.q.now other.old.e.now pivot.new.q.now pivot.new.e.now other.new.q.now other.new.e.now }
     ensures lengths { Lengths (length pivot.old.q.now) pivot.new.q.now pivot.new.e.now other.new.q.now other.new.e.now }
     ensures bounds { (pivot.new.bound ≡ pivot.old.bound) × (other.new.bound ≡ other.old.bound) }
 {
-    other.combine(field, gaps.0, gaps.1, pivot);
+    other.combine(field, gap, other_gap, pivot);
     pivot.add_root(field, x as u8);
 }
 
@@ -79,10 +86,10 @@ fn advance<F: Field>(field: &F, x: usize, t: u8, first: &mut Pair, second: &mut 
     let gap0 = first.miss(field, x, t);
     let gap1 = second.miss(field, x, t);
     if gap0 != 0 && (gap1 == 0 || first.bound <= second.bound) {
-        eliminate(field, x, (gap0, gap1), first, second);
+        eliminate(field, x, gap0, first, gap1, second);
         return true;
     }
-    eliminate(field, x, (gap1, gap0), second, first);
+    eliminate(field, x, gap1, second, gap0, first);
     false
 }
 

@@ -1,4 +1,4 @@
-use Rattle.std.proofs.Common.{◌≡◌, ℕ, ◌-◌, ◌<◌, List, length, take, Ok, sym, refl, ap, ◌∙◌, subst, arith, is_err}
+use Rattle.std.proofs.Common.{◌≡◌, ℕ, ◌<◌, List, length, take, Ok, sym, refl, ap, ◌∙◌, subst, arith, is_err}
 use Rattle.std.proofs.ByRecursion.{All-take}
 use Rattle.std.proofs.lemmas.List.{length-take-le}
 use Rattle.words.proofs.Rises.{raised}
