@@ -7,15 +7,16 @@ ghost use Rattle.reed_solomon.specs.Passes.{Beside, Follows, plus_multiple, comb
 use crate::elements::{add, multiply};
 use fields::field::Field;
 
-/// v + c·p and r·p at one place. Most places have p = 0, where nothing changes.
-fn step<F: Field>(field: &F, c: u8, r: u8, v: &mut u8, p: &mut u8)
-    requires { (F.sound field.now) × ((c < field_size (F.model field.now)) × ((r < field_size (F.model field.now)) × ((v.old < field_size (F.model field.now)) × (p.old < field_size (F.model field.now))))) }
-    ensures { (v.new ≡ (F.model field.now).sum v.old ((F.model field.now).product c p.old)) × (p.new ≡ (F.model field.now).product r p.old) }
+/// v + c·p and r·p at one place. Most places have p = 0, where nothing changes. It answers both: a step that wrote them through two
+/// references made the correction of a word a third slower.
+fn step<F: Field>(field: &F, c: u8, r: u8, v: u8, p: u8) -> (u8, u8)
+    requires { (F.sound field.now) × ((c < field_size (F.model field.now)) × ((r < field_size (F.model field.now)) × ((v < field_size (F.model field.now)) × (p < field_size (F.model field.now))))) }
+    ensures { (result.0 ≡ (F.model field.now).sum v ((F.model field.now).product c p)) × (result.1 ≡ (F.model field.now).product r p) }
 {
-    if *p != 0 {
-        *v = add(field, *v, multiply(field, c, *p));
-        *p = multiply(field, r, *p);
+    if p == 0 {
+        return (v, p);
     }
+    (add(field, v, multiply(field, c, p)), multiply(field, r, p))
 }
 
 /// v + c·p, and then (X + x)·p, where place j stands for the element numbered j.
@@ -23,9 +24,11 @@ pub(crate) fn take_root<F: Field>(field: &F, c: u8, x: u8, v: &mut [u8], p: &mut
     requires { (F.sound field.now) × ((c < field_size (F.model field.now)) × ((x < field_size (F.model field.now)) × ((length p.old ≤ field_size (F.model field.now)) × (Beside (F.model field.now) p.old v.old)))) }
     ensures { Follows v.new (length p.old) (plus_multiple (F.model field.now) c p.old v.old) × Follows p.new (length p.old) (with_root (F.model field.now) x p.old) }
 {
-    for (j, product) in p.iter_mut().enumerate() {
+    for (j, y) in p.iter_mut().enumerate() {
         let factor = add(field, j as u8, x);
-        step(field, c, factor, &mut v[j], product);
+        let (value, product) = step(field, c, factor, v[j], *y);
+        v[j] = value;
+        *y = product;
     }
 }
 
