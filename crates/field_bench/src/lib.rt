@@ -7,7 +7,12 @@ use fields::worked::recipe_extension;
 use words::fault::Fault;
 
 /// Each element times `by`.
-fn scale<F: Field>(field: &F, elements: &mut [u8], by: u8) -> Result<(), Fault> {
+fn scale<F: Field + Drop>(
+    field: Result<F, Fault>,
+    elements: &mut [u8],
+    by: u8,
+) -> Result<(), Fault> {
+    let field = field?;
     for x in elements.iter_mut() {
         *x = field.product(*x, by)?;
     }
@@ -15,42 +20,27 @@ fn scale<F: Field>(field: &F, elements: &mut [u8], by: u8) -> Result<(), Fault> 
 }
 
 /// The product of all elements, one after the other.
-fn chain<F: Field>(field: &F, elements: &[u8]) -> Result<u8, Fault> {
-    let mut all = 1;
-    for x in elements {
-        all = field.product(all, *x)?;
-    }
-    Ok(all)
+fn chain<F: Field + Drop>(field: Result<F, Fault>, elements: &[u8]) -> Result<u8, Fault> {
+    let field = field?;
+    elements.iter().try_fold(1, |all, x| field.product(all, *x))
 }
 
 #[unsafe(no_mangle)]
 pub extern "C" fn polynomial_scale(elements: &mut [u8], by: u8) -> bool {
-    match Polynomial::new(8) {
-        Ok(field) => scale(&field, elements, by).is_ok(),
-        Err(_) => false,
-    }
+    scale(Polynomial::new(8), elements, by).is_ok()
 }
 
 #[unsafe(no_mangle)]
 pub extern "C" fn extension_scale(elements: &mut [u8], by: u8) -> bool {
-    match recipe_extension(8) {
-        Ok(field) => scale(&field, elements, by).is_ok(),
-        Err(_) => false,
-    }
+    scale(recipe_extension(8), elements, by).is_ok()
 }
 
 #[unsafe(no_mangle)]
 pub extern "C" fn polynomial_chain(elements: &[u8]) -> u8 {
-    match Polynomial::new(8) {
-        Ok(field) => chain(&field, elements).unwrap_or(0),
-        Err(_) => 0,
-    }
+    chain(Polynomial::new(8), elements).unwrap_or(0)
 }
 
 #[unsafe(no_mangle)]
 pub extern "C" fn extension_chain(elements: &[u8]) -> u8 {
-    match recipe_extension(8) {
-        Ok(field) => chain(&field, elements).unwrap_or(0),
-        Err(_) => 0,
-    }
+    chain(recipe_extension(8), elements).unwrap_or(0)
 }

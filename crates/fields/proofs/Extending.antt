@@ -1,12 +1,12 @@
 -- The extensions of recipes are lawful. Assumes nothing.
-use Rattle.std.proofs.Common.{◌≡◌, ℕ, ◌/◌, ◌≤◌, Ok, Err, Result, sym, refl, ap, subst, inl, inr, ⊎_elim, arith, lit≤}
+use Rattle.std.proofs.Common.{◌≡◌, ℕ, ◌/◌, ◌≤◌, Ok, Err, Result, sym, refl, subst, inl, inr, ⊎_elim, arith, lit≤}
 use Rattle.words.specs.declared.fault.Fault.{Fault}
 use Rattle.field_laws.specs.Polynomials.{polynomial, times, double, gate}
 use Rattle.field_laws.specs.Extensions.{Extends}
 use Rattle.field_laws.proofs.PolynomialLaws.{polynomial_laws}
 use Rattle.field_laws.proofs.ExtensionLaws.{extension_laws}
 use Rattle.field_laws.proofs.Roots.{extends_2, extends_4, extends_6, extends_8, not_by_one}
-use Rattle.fields.specs.Answers.{Makes, unlawful}
+use Rattle.fields.specs.Answers.{Makes}
 use Rattle.fields.specs.Examples.{Examples}
 use Rattle.fields.specs.Recipe.{RecipeConstant, RecipeWidth, RecipeExtension}
 use Rattle.fields.specs.declared.extension.Extension.{Extension}
@@ -53,11 +53,3 @@ made w c r wide constant makes = by r (makes (omega arith) (omega arith))
 pub examples : Examples
 unfolding times double gate
 examples = record { three = refl; eight = refl; extended = refl; refused = not_by_one }
-
-pub one_refused : (r : Result (Extension Polynomial) Fault) →
-    (1 ≤ 4 → 4 ≤ 8 → Makes (Extends (polynomial 4) 1) (λ (x : Extension Polynomial). (x.base.width ≡ 4) × (x.c ≡ 1)) r) → r ≡ Err unlawful
-one_refused r makes = by r (makes (lit≤ tt) (lit≤ tt))
-  where
-    by : (r : Result (Extension Polynomial) Fault) → Makes (Extends (polynomial 4) 1) (λ (x : Extension Polynomial). (x.base.width ≡ 4) × (x.c ≡ 1)) r → r ≡ Err unlawful
-    by (Ok x) h = absurd (not_by_one h.0)
-    by (Err f) h = ap Err h.1

@@ -4,15 +4,11 @@ use Rattle.std.proofs.lemmas.Bool.{lt-ltb, cond-true}
 use Rattle.words.specs.declared.fault.Fault.{Fault}
 use Rattle.field_laws.specs.Fields.{FieldModel, FieldLaws, size}
 use Rattle.field_laws.proofs.Reciprocals.{found_below}
-use Rattle.fields.specs.Answers.{of_one, of_two, too_large}
+use Rattle.fields.specs.Answers.{of_one, too_large}
 use Rattle.fields.specs.declared.below.Parts.{Parts}
 
 pub ok_one : {A : Type 0} (q a : ℕ) (v : A) → a < q → of_one q a v ≡ Ok v
 ok_one q a v ha = cond-true (ltb a q) (Ok v) (Err (too_large 0)) (lt-ltb a q ha)
-
-pub ok_two : {A : Type 0} (q a b : ℕ) (v : A) → a < q → b < q → of_two q a b v ≡ Ok v
-ok_two q a b v ha hb =
-    cond-true (ltb a q) _ (Err (too_large 0)) (lt-ltb a q ha) ∙ cond-true (ltb b q) (Ok v) (Err (too_large 1)) (lt-ltb b q hb)
 
 -- a result that is both
 pub same_value : {A : Type 0} {r : Result A Fault} {x v : A} → r ≡ Ok x → r ≡ Ok v → x ≡ v

@@ -7,10 +7,10 @@ use Rattle.field_laws.specs.Extensions.{norm, joined, extension}
 use Rattle.fields.specs.Answers.{unlawful}
 use Rattle.fields.specs.declared.below.Parts.{Parts}
 
--- the width of the field below, at most 4
-abbrev pub Narrow : Type 0 → FieldModel → Result ℕ Fault → Type 0
-Narrow Sound f (Ok w) = (w ≤ 4) × (Sound → w ≡ f.width)
-Narrow Sound f (Err e) = (e ≡ unlawful) × (Sound → f.width ≤ 4 → ⊥)
+-- the field below, its width at most 4
+abbrev pub Narrow : {B : Type 0} → Type 0 → FieldModel → (B → ℕ) → Result B Fault → Type 0
+Narrow Sound f width (Ok b) = (width b ≤ 4) × (Sound → width b ≡ f.width)
+Narrow Sound f width (Err e) = (e ≡ unlawful) × (Sound → f.width ≤ 4 → ⊥)
 
 -- e·e + e
 abbrev pub Trace : Type 0 → FieldModel → ℕ → Result ℕ Fault → Type 0

@@ -1,7 +1,6 @@
 // Arithmetic in the field below an extension. Elements of an extension come apart into two elements of that field.
-ghost use Rattle.std.specs.Prelude.{◌≡◌, ℕ, ◌+◌, ◌*◌, ◌/◌, ◌%◌, ◌^◌, ◌<◌, ◌≤◌, Ok, Err};
-ghost use Rattle.field_laws.specs.Extensions.{Rootless};
-ghost use Rattle.field_laws.specs.Fields.{size as field_size};
+ghost use Rattle.std.specs.Prelude.{◌≡◌, ℕ, ◌+◌, ◌*◌, ◌/◌, ◌%◌, ◌^◌, ◌<◌, ◌≤◌, IfOk, Ok, Err};
+ghost use Rattle.field_laws.specs.Extensions.{Extends, Rootless};
 ghost use Rattle.fields.specs.Answers.{Checks};
 ghost use Rattle.fields.specs.Below.{Narrow, Trace, TwoProducts, Norm, ProductParts, ScaledParts, Scaled, SumOf, ProductOf, InverseOf};
 
@@ -16,161 +15,177 @@ pub(crate) struct Parts {
     pub high: u8,
 }
 
-/// The width of the field below; 13 if it is above 4.
-pub(crate) fn narrow<F: Field>(field: &F) -> Result<u8, Fault>
-    ensures { Narrow (F.sound field.now) (F.model field.now) result }
-{
-    let width = field.width();
-    if width > 4 {
-        return Err(no_field());
-    }
-    Ok(width)
+/// The field below an extension by y·y = y + c, its width at hand.
+#[derive(Drop)]
+pub(crate) struct Below<'a, F> {
+    field: &'a F,
+    c: u8,
+    width: u8,
+    ghost narrow: { width ≤ 4 },
 }
 
-/// How many elements the field below has.
-pub(crate) fn size_below(width: u8) -> u8
-    requires { width ≤ 4 }
-    ensures { result ≡ 2 ^ width }
-{
-    1 << width
-}
-
-/// How many elements the extension has.
-pub(crate) fn size_above(width: u8) -> usize
-    requires { width ≤ 4 }
-    ensures { result ≡ 2 ^ (2 * width) }
-{
-    1 << (2 * width)
-}
-
-/// The two parts of an element.
-pub(crate) fn split(width: u8, x: u8) -> Parts
-    requires { width ≤ 4 }
-    ensures value { (result.low ≡ x % 2 ^ width) × (result.high ≡ x / 2 ^ width) }
-    ensures bounds { (result.low < 2 ^ width) × (x < 2 ^ (2 * width) → result.high < 2 ^ width) }
-{
-    let q = 1 << width;
-    Parts {
-        low: x % q,
-        high: x / q,
-    }
-}
-
-/// The element of these parts; 13 where one is no element below.
-pub(crate) fn join(width: u8, low: u8, high: u8) -> Result<u8, Fault>
-    requires { width ≤ 4 }
-    ensures { low < 2 ^ width → high < 2 ^ width → result ≡ Ok (low + 2 ^ width * high) }
-{
-    let q = 1 << width;
-    if low >= q || high >= q {
-        return Err(no_field());
-    }
-    Ok(low + q * high)
-}
-
-/// e·e + e
-pub(crate) fn trace<F: Field>(field: &F, e: u8) -> Result<u8, Fault>
-    ensures { Trace (F.sound field.now) (F.model field.now) e result }
-{
-    let square = field.product(e, e)?;
-    field.sum(square, e)
-}
-
-/// Ok if no element e has e·e + e = c; else 13.
-pub(crate) fn no_root<F: Field>(field: &F, size: u8, c: u8) -> Result<(), Fault>
-    requires sound { F.sound field.now }
-    requires size_value { size ≡ field_size (F.model field.now) }
-    ensures { Checks (Rootless (F.model field.now) c) result }
-{
-    for e in 0..size {
-        if trace(field, e)? == c {
+impl<'a, F: Field> Below<'a, F> {
+    /// Refuses with 13 if the width is above 4.
+    pub(crate) fn new(field: &'a F, c: u8) -> Result<Below<'a, F>, Fault>
+        ensures narrow { Narrow (F.sound field.now) (F.model field.now) (λ (b : Below F). b.width) result }
+        ensures parts { IfOk result (λ (b : Below F). (b.field.now ≡ field.now) × (b.c ≡ c)) }
+    {
+        let width = field.width();
+        if width > 4 {
             return Err(no_field());
         }
+        Ok(Below { field, c, width })
     }
-    Ok(())
 }
 
-/// a·u + b·v
-pub(crate) fn two_products<F: Field>(field: &F, a: u8, u: u8, b: u8, v: u8) -> Result<u8, Fault>
-    ensures { TwoProducts (F.sound field.now) (F.model field.now) a u b v result }
-{
-    let au = field.product(a, u)?;
-    let bv = field.product(b, v)?;
-    field.sum(au, bv)
-}
+impl<F: Field> Below<'_, F> {
+    /// How many elements the field below has.
+    pub(crate) fn size(&self) -> u8
+        ensures { result ≡ 2 ^ self.now.width }
+    {
+        1 << self.width
+    }
 
-/// a·(a + b) + c·b·b, for a + b·y.
-pub(crate) fn norm<F: Field>(field: &F, c: u8, x: Parts) -> Result<u8, Fault>
-    ensures { Norm (F.sound field.now) (F.model field.now) c x.low x.high result }
-{
-    let sum = field.sum(x.low, x.high)?;
-    let square = field.product(x.high, x.high)?;
-    two_products(field, x.low, sum, c, square)
-}
+    /// How many elements the extension has.
+    pub(crate) fn size_above(&self) -> usize
+        ensures { result ≡ 2 ^ (2 * self.now.width) }
+    {
+        1 << (2 * self.width)
+    }
 
-/// The parts of the product of `x` and `y`.
-pub(crate) fn product_parts<F: Field>(field: &F, c: u8, x: Parts, y: Parts) -> Result<Parts, Fault>
-    ensures { ProductParts (F.sound field.now) (F.model field.now) c x.low x.high y.low y.high result }
-{
-    let squared = field.product(x.high, y.high)?;
-    let low = two_products(field, x.low, y.low, c, squared)?;
-    let cross = two_products(field, x.low, y.high, x.high, y.low)?;
-    let high = field.sum(cross, squared)?;
-    Ok(Parts { low, high })
-}
+    /// The two parts of an element.
+    fn split(&self, x: u8) -> Parts
+        ensures value { (result.low ≡ x % 2 ^ self.now.width) × (result.high ≡ x / 2 ^ self.now.width) }
+        ensures bounds { (result.low < 2 ^ self.now.width) × (x < 2 ^ (2 * self.now.width) → result.high < 2 ^ self.now.width) }
+    {
+        let q = self.size();
+        Parts {
+            low: x % q,
+            high: x / q,
+        }
+    }
 
-/// The parts of i·((a + b) + b·y), for a + b·y.
-pub(crate) fn scaled_parts<F: Field>(field: &F, i: u8, x: Parts) -> Result<Parts, Fault>
-    ensures { ScaledParts (F.sound field.now) (F.model field.now) i x.low x.high result }
-{
-    let sum = field.sum(x.low, x.high)?;
-    let low = field.product(i, sum)?;
-    let high = field.product(i, x.high)?;
-    Ok(Parts { low, high })
-}
+    /// The element of these parts; 13 where one is no element below.
+    fn join(&self, x: Parts) -> Result<u8, Fault>
+        ensures { x.low < 2 ^ self.now.width → x.high < 2 ^ self.now.width → result ≡ Ok (x.low + 2 ^ self.now.width * x.high) }
+    {
+        let q = self.size();
+        if x.low >= q || x.high >= q {
+            return Err(no_field());
+        }
+        Ok(x.low + q * x.high)
+    }
 
-/// i·((a + b) + b·y), for a + b·y.
-pub(crate) fn scaled<F: Field>(field: &F, i: u8, width: u8, x: Parts) -> Result<u8, Fault>
-    requires { width ≤ 4 }
-    ensures { Scaled (F.sound field.now) (F.model field.now) i width x.low x.high result }
-{
-    let parts = scaled_parts(field, i, x)?;
-    join(width, parts.low, parts.high)
-}
+    /// e·e + e
+    fn trace(&self, e: u8) -> Result<u8, Fault>
+        ensures { Trace (F.sound self.now.field.now) (F.model self.now.field.now) e result }
+    {
+        let square = self.field.product(e, e)?;
+        self.field.sum(square, e)
+    }
 
-/// The sum of two elements of the extension.
-pub(crate) fn sum_of<F: Field>(field: &F, width: u8, a: u8, b: u8) -> Result<u8, Fault>
-    requires { width ≤ 4 }
-    ensures { SumOf (F.sound field.now) (F.model field.now) width a b result }
-{
-    let x = split(width, a);
-    let y = split(width, b);
-    let low = field.sum(x.low, y.low)?;
-    let high = field.sum(x.high, y.high)?;
-    join(width, low, high)
-}
+    /// Ok if no element e has e·e + e = c; else 13.
+    fn no_root(&self) -> Result<(), Fault>
+        requires { F.sound self.now.field.now × (self.now.width ≡ (F.model self.now.field.now).width) }
+        ensures { Checks (Rootless (F.model self.now.field.now) self.now.c) result }
+    {
+        for e in 0..self.size() {
+            if self.trace(e)? == self.c {
+                return Err(no_field());
+            }
+        }
+        Ok(())
+    }
 
-/// The product of two elements of the extension.
-pub(crate) fn product_of<F: Field>(field: &F, c: u8, width: u8, a: u8, b: u8) -> Result<u8, Fault>
-    requires { width ≤ 4 }
-    ensures { ProductOf (F.sound field.now) (F.model field.now) c width a b result }
-{
-    let x = split(width, a);
-    let y = split(width, b);
-    let parts = product_parts(field, c, x, y)?;
-    join(width, parts.low, parts.high)
-}
+    /// Ok if c is an element below, and no element e has e·e + e = c; else 13.
+    pub(crate) fn check(&self) -> Result<(), Fault>
+        requires { F.sound self.now.field.now × (self.now.width ≡ (F.model self.now.field.now).width) }
+        ensures { Checks (Extends (F.model self.now.field.now) self.now.c) result }
+    {
+        if self.c >= self.size() {
+            return Err(no_field());
+        }
+        self.no_root()
+    }
 
-/// The inverse of an element of the extension, absent for zero.
-pub(crate) fn inverse_of<F: Field>(field: &F, c: u8, width: u8, a: u8) -> Result<Option<u8>, Fault>
-    requires { width ≤ 4 }
-    ensures { InverseOf (F.sound field.now) (F.model field.now) c width a result }
-{
-    let x = split(width, a);
-    let n = norm(field, c, x)?;
-    let Some(i) = field.inverse(n)? else {
-        return Ok(None);
-    };
-    let inverse = scaled(field, i, width, x)?;
-    Ok(Some(inverse))
+    /// a·u + b·v
+    fn two_products(&self, a: u8, u: u8, b: u8, v: u8) -> Result<u8, Fault>
+        ensures { TwoProducts (F.sound self.now.field.now) (F.model self.now.field.now) a u b v result }
+    {
+        let au = self.field.product(a, u)?;
+        let bv = self.field.product(b, v)?;
+        self.field.sum(au, bv)
+    }
+
+    /// a·(a + b) + c·b·b, for a + b·y.
+    fn norm(&self, x: Parts) -> Result<u8, Fault>
+        ensures { Norm (F.sound self.now.field.now) (F.model self.now.field.now) self.now.c x.low x.high result }
+    {
+        let sum = self.field.sum(x.low, x.high)?;
+        let square = self.field.product(x.high, x.high)?;
+        self.two_products(x.low, sum, self.c, square)
+    }
+
+    /// The parts of the product of `x` and `y`.
+    fn product_parts(&self, x: Parts, y: Parts) -> Result<Parts, Fault>
+        ensures { ProductParts (F.sound self.now.field.now) (F.model self.now.field.now) self.now.c x.low x.high y.low y.high result }
+    {
+        let squared = self.field.product(x.high, y.high)?;
+        let low = self.two_products(x.low, y.low, self.c, squared)?;
+        let cross = self.two_products(x.low, y.high, x.high, y.low)?;
+        let high = self.field.sum(cross, squared)?;
+        Ok(Parts { low, high })
+    }
+
+    /// The parts of i·((a + b) + b·y), for a + b·y.
+    fn scaled_parts(&self, i: u8, x: Parts) -> Result<Parts, Fault>
+        ensures { ScaledParts (F.sound self.now.field.now) (F.model self.now.field.now) i x.low x.high result }
+    {
+        let sum = self.field.sum(x.low, x.high)?;
+        let low = self.field.product(i, sum)?;
+        let high = self.field.product(i, x.high)?;
+        Ok(Parts { low, high })
+    }
+
+    /// i·((a + b) + b·y), for a + b·y.
+    fn scaled(&self, i: u8, x: Parts) -> Result<u8, Fault>
+        ensures { Scaled (F.sound self.now.field.now) (F.model self.now.field.now) i self.now.width x.low x.high result }
+    {
+        let parts = self.scaled_parts(i, x)?;
+        self.join(parts)
+    }
+
+    /// The sum of two elements of the extension.
+    pub(crate) fn sum(&self, a: u8, b: u8) -> Result<u8, Fault>
+        ensures { SumOf (F.sound self.now.field.now) (F.model self.now.field.now) self.now.width a b result }
+    {
+        let x = self.split(a);
+        let y = self.split(b);
+        let low = self.field.sum(x.low, y.low)?;
+        let high = self.field.sum(x.high, y.high)?;
+        self.join(Parts { low, high })
+    }
+
+    /// The product of two elements of the extension.
+    pub(crate) fn product(&self, a: u8, b: u8) -> Result<u8, Fault>
+        ensures { ProductOf (F.sound self.now.field.now) (F.model self.now.field.now) self.now.c self.now.width a b result }
+    {
+        let x = self.split(a);
+        let y = self.split(b);
+        let parts = self.product_parts(x, y)?;
+        self.join(parts)
+    }
+
+    /// The inverse of an element of the extension, absent for zero.
+    pub(crate) fn inverse(&self, a: u8) -> Result<Option<u8>, Fault>
+        ensures { InverseOf (F.sound self.now.field.now) (F.model self.now.field.now) self.now.c self.now.width a result }
+    {
+        let x = self.split(a);
+        let n = self.norm(x)?;
+        let Some(i) = self.field.inverse(n)? else {
+            return Ok(None);
+        };
+        let inverse = self.scaled(i, x)?;
+        Ok(Some(inverse))
+    }
 }

@@ -4,9 +4,9 @@ ghost use Rattle.field_laws.specs.Extensions.{Extends, extension};
 ghost use Rattle.fields.specs.Answers.{Makes};
 ghost use Rattle.field_laws.proofs.ExtensionLaws.{extension_laws};
 
-use crate::below::{inverse_of, narrow, no_root, product_of, size_above, size_below, sum_of};
+use crate::below::Below;
 use crate::field::Field;
-use crate::refusals::{element, elements, no_field};
+use crate::refusals::{element, elements};
 use words::fault::Fault;
 
 /// The field whose number a + q·b means a + b·y over a field of q elements, q at most 16.
@@ -37,11 +37,8 @@ impl<F: Field> Field for Extension<F> {
 
     fn check(&self) -> Result<(), Fault> {
         self.base.check()?;
-        let size = size_below(narrow(&self.base)?);
-        if self.c >= size {
-            return Err(no_field());
-        }
-        no_root(&self.base, size, self.c)
+        let below = Below::new(&self.base, self.c)?;
+        below.check()
     }
 
     fn width(&self) -> u8 {
@@ -49,20 +46,20 @@ impl<F: Field> Field for Extension<F> {
     }
 
     fn sum(&self, a: u8, b: u8) -> Result<u8, Fault> {
-        let width = narrow(&self.base)?;
-        elements(size_above(width), a, b)?;
-        sum_of(&self.base, width, a, b)
+        let below = Below::new(&self.base, self.c)?;
+        elements(below.size_above(), a, b)?;
+        below.sum(a, b)
     }
 
     fn product(&self, a: u8, b: u8) -> Result<u8, Fault> {
-        let width = narrow(&self.base)?;
-        elements(size_above(width), a, b)?;
-        product_of(&self.base, self.c, width, a, b)
+        let below = Below::new(&self.base, self.c)?;
+        elements(below.size_above(), a, b)?;
+        below.product(a, b)
     }
 
     fn inverse(&self, a: u8) -> Result<Option<u8>, Fault> {
-        let width = narrow(&self.base)?;
-        element(size_above(width), a)?;
-        inverse_of(&self.base, self.c, width, a)
+        let below = Below::new(&self.base, self.c)?;
+        element(below.size_above(), a)?;
+        below.inverse(a)
     }
 }

@@ -24,7 +24,7 @@ impl Polynomial {
     pub fn new(m: u8) -> Result<Polynomial, Fault>
         ensures { Makes ((1 ≤ m) × (m ≤ 8)) (λ (p : Polynomial). p.width ≡ m) result }
     {
-        if m < 1 || m > 8 {
+        if !(1..=8).contains(&m) {
             return Err(no_field());
         }
         Ok(Polynomial { width: m })

@@ -1,4 +1,5 @@
-// The tables of the polynomial fields, all eight widths in one. The rows of width m begin at 2^m and at 2·2^m.
+// The tables of the polynomial fields, all eight widths in one. The rows of width m begin at 2^m and at 2·2^m: each is as long as all
+// before it, so an array of rows would be padded to four times the length, and an array of slices would look up a slice for each number.
 ghost use Rattle.std.specs.Prelude.{◌≡◌, ◌+◌, ◌*◌, ◌^◌, ◌<◌, ◌≤◌, slice_index};
 ghost use Rattle.field_laws.specs.Polynomials.{polynomial, times};
 ghost use Rattle.field_laws.proofs.Tables.{logs, antilogs};

@@ -68,6 +68,7 @@ fn example_products() -> Result<[u8; 3], Fault>
 }
 
 /// The products of the worked examples: 1, 1 and 24.
+#[tactic(auto, using(crate::proofs::Extending::examples))]
 pub fn examples() -> Result<[u8; 3], Fault>
     ensures stand { Examples }
     ensures values { result ≡ Ok (1 ∷ 1 ∷ 24 ∷ []) }
@@ -76,6 +77,7 @@ pub fn examples() -> Result<[u8; 3], Fault>
 }
 
 /// The extension over width 4 with c = 1, which is refused with 13.
+#[tactic(auto, using(field_laws::proofs::Roots::not_by_one))]
 pub fn refused_example() -> Result<Extension<Polynomial>, Fault>
     ensures { result ≡ Err unlawful }
 {

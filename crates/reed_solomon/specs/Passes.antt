@@ -31,6 +31,10 @@ Rows f symbols skip v p =
 abbrev pub Over : FieldModel → (y g p t : ℕ) → Type 0
 Over f y g p t = (i : ℕ) × (f.reciprocal p ≡ Some i) × (t ≡ f.product (f.sum y g) i)
 
+-- an array has an element at place x
+abbrev pub HasElement : FieldModel → ℕ → List ℕ → Type 0
+HasElement f x v = (x < length v) × (slice_index v x < size f)
+
 -- four arrays of n elements
 abbrev pub Pairs : FieldModel → ℕ → (q e u w : List ℕ) → Type 0
 Pairs f n q e u w =

@@ -26,7 +26,7 @@ impl<F: Field + Copy> ReedSolomon<F> {
     pub fn new(field: F, len: usize, message_len: usize) -> Result<Self, Fault>
         ensures { Makes (F.Field.sound field) (F.Field.model field) len message_len (λ (c : ReedSolomon F). (c.field ≡ field) × (c.len ≡ len) × (c.message_len ≡ message_len)) result }
     {
-        check_systematic(&field, len, message_len)?;
+        check_kind(&field, len, message_len)?;
         Ok(ReedSolomon {
             field,
             len,
@@ -40,17 +40,9 @@ fn check_kind<F: Field>(field: &F, len: usize, message_len: usize) -> Result<(),
     ensures { Fits (F.sound field.now) (F.model field.now) len message_len result }
 {
     field.check()?;
-    if len > 1 << field.width() || message_len < 1 || message_len > len {
+    if len > 1 << field.width() || !(1..=len).contains(&message_len) {
         return Err(Fault::new(Kind::OutsideKind, Layer::Code, 0));
     }
-    Ok(())
-}
-
-/// The same as `check_kind`; where it is Ok, each codeword is the only one that begins with its message.
-fn check_systematic<F: Field>(field: &F, len: usize, message_len: usize) -> Result<(), Fault>
-    ensures { Makes (F.sound field.now) (F.model field.now) len message_len (λ _. Unit {0}) result }
-{
-    check_kind(field, len, message_len)?;
     Ok(())
 }
 
@@ -113,8 +105,8 @@ impl<F: Field> Code for ReedSolomon<F> {
             word,
             self.len,
         )?;
-        recognize(&self.field, &word[0..self.message_len], word)?;
-        message.copy_from_slice(&word[0..self.message_len]);
+        recognize(&self.field, &word[..self.message_len], word)?;
+        message.copy_from_slice(&word[..self.message_len]);
         Ok(())
     }
 

@@ -2,8 +2,8 @@
 // the error there over the product of the choice.
 ghost use Rattle.std.specs.Prelude.{◌≡◌, ◌<◌, ◌≤◌, length, if◌then◌else◌, ◌≢◌};
 ghost use Rattle.field_laws.specs.Fields.{size as field_size};
-ghost use Rattle.reed_solomon_laws.proofs.Arrays.{Eliminated, Located};
-ghost use Rattle.reed_solomon.specs.Passes.{Over, Pairs, Advanced, Readings, Lengths, Skips, Rightful};
+ghost use Rattle.reed_solomon_laws.proofs.Arrays.{Eliminated, Located, miss as missed};
+ghost use Rattle.reed_solomon.specs.Passes.{Over, HasElement, Beside, Follows, combination, with_root, Pairs, Advanced, Readings, Lengths, Skips, Rightful};
 
 use crate::elements::{add, invert, multiply};
 use crate::passes::{add_root, combine};
@@ -17,55 +17,79 @@ fn quotient<F: Field>(field: &F, y: u8, g: u8, p: u8) -> u8
     multiply(field, add(field, y, g), invert(field, p))
 }
 
-/// q + t·e
-fn miss<F: Field>(field: &F, t: u8, q: u8, e: u8) -> u8
-    requires { (F.sound field.now) × ((t < field_size (F.model field.now)) × ((q < field_size (F.model field.now)) × (e < field_size (F.model field.now)))) }
-    ensures { (result ≡ (F.model field.now).sum q ((F.model field.now).product t e)) × (result < field_size (F.model field.now)) }
-{
-    add(field, q, multiply(field, t, e))
+/// Polynomials q and e by their values, and a bound on their degrees.
+#[derive(Drop)]
+struct Pair<'a> {
+    q: &'a mut [u8],
+    e: &'a mut [u8],
+    bound: usize,
 }
 
-/// Makes the other pair u, w meet the equation at x too, by the pivot q, e, and then multiplies the pivot by X + x.
+impl Pair<'_> {
+    /// q + t·e at the place x
+    fn miss<F: Field>(&self, field: &F, x: usize, t: u8) -> u8
+        requires { (F.sound field.now) × ((t < field_size (F.model field.now)) × (HasElement (F.model field.now) x self.now.q.now × HasElement (F.model field.now) x self.now.e.now)) }
+        ensures { (result ≡ missed (F.model field.now) x t self.now.q.now self.now.e.now) × (result < field_size (F.model field.now)) }
+    {
+        add(field, self.q[x], multiply(field, t, self.e[x]))
+    }
+
+    /// a times this pair, plus b times the pivot
+    fn combine<F: Field>(&mut self, field: &F, a: u8, b: u8, pivot: &Pair)
+        requires { (F.sound field.now) × (((a < field_size (F.model field.now)) × (b < field_size (F.model field.now))) × (Pairs (F.model field.now) (length pivot.now.q.now) pivot.now.q.now pivot.now.e.now self.old.q.now self.old.e.now)) }
+        ensures q { Follows self.new.q.now (length pivot.now.q.now) (combination (F.model field.now) a self.old.q.now b pivot.now.q.now) }
+        ensures e { Follows self.new.e.now (length pivot.now.q.now) (combination (F.model field.now) a self.old.e.now b pivot.now.e.now) }
+        ensures same { (length self.new.q.now ≡ length self.old.q.now) × (length self.new.e.now ≡ length self.old.e.now) × (self.new.bound ≡ self.old.bound) }
+    {
+        combine(field, a, self.q, b, pivot.q);
+        combine(field, a, self.e, b, pivot.e);
+    }
+
+    /// (X + x) times this pair
+    fn add_root<F: Field>(&mut self, field: &F, x: u8)
+        requires { (F.sound field.now) × ((x < field_size (F.model field.now)) × ((length self.old.q.now ≤ field_size (F.model field.now)) × (Beside (F.model field.now) self.old.q.now self.old.e.now))) }
+        ensures q { Follows self.new.q.now (length self.old.q.now) (with_root (F.model field.now) x self.old.q.now) }
+        ensures e { Follows self.new.e.now (length self.old.q.now) (with_root (F.model field.now) x self.old.e.now) }
+        ensures same { (length self.new.q.now ≡ length self.old.q.now) × (length self.new.e.now ≡ length self.old.e.now) × (self.new.bound ≡ self.old.bound) }
+    {
+        add_root(field, x, self.q);
+        add_root(field, x, self.e);
+    }
+}
+
+/// Makes the other pair meet the equation at x too, by the pivot, and then multiplies the pivot by X + x.
 fn eliminate<F: Field>(
     field: &F,
     x: usize,
-    gaps: (u8, u8),
-    q: &mut [u8],
-    e: &mut [u8],
-    u: &mut [u8],
-    w: &mut [u8],
+    gap: u8,
+    pivot: &mut Pair,
+    other_gap: u8,
+    other: &mut Pair,
 )
-    requires { (F.sound field.now) × (((x < length q.old) × (length q.old ≤ field_size (F.model field.now))) × (((gaps.0 < field_size (F.model field.now)) × (gaps.1 < field_size (F.model field.now))) × (Pairs (F.model field.now) (length q.old) q.old e.old u.old w.old))) }
-    ensures { Eliminated (F.model field.now) (length q.old) x gaps.0 gaps.1 q.old e.old u.old w.old q.new e.new u.new w.new }
+    requires { (F.sound field.now) × (((x < length pivot.old.q.now) × (length pivot.old.q.now ≤ field_size (F.model field.now))) × (((gap < field_size (F.model field.now)) × (other_gap < field_size (F.model field.now))) × (Pairs (F.model field.now) (length pivot.old.q.now) pivot.old.q.now pivot.old.e.now other.old.q.now other.old.e.now))) }
+    ensures eliminated { Eliminated (F.model field.now) (length pivot.old.q.now) x gap other_gap pivot.old.q.now pivot.old.e.now other.old.q.now other.old.e.now pivot.new.q.now pivot.new.e.now other.new.q.now other.new.e.now }
+    ensures lengths { Lengths (length pivot.old.q.now) pivot.new.q.now pivot.new.e.now other.new.q.now other.new.e.now }
+    ensures bounds { (pivot.new.bound ≡ pivot.old.bound) × (other.new.bound ≡ other.old.bound) }
 {
-    combine(field, gaps.0, u, gaps.1, q);
-    combine(field, gaps.0, w, gaps.1, e);
-    add_root(field, x as u8, q);
-    add_root(field, x as u8, e);
+    other.combine(field, gap, other_gap, pivot);
+    pivot.add_root(field, x as u8);
 }
 
 /// One readable place x more, with the quotient t there. The pivot is a pair that misses the equation at x: of two such the one with
 /// the smaller bound, of equal bounds the first. Answers whether it is the first.
-fn advance<F: Field>(
-    field: &F,
-    x: usize,
-    t: u8,
-    bounds: (usize, usize),
-    q0: &mut [u8],
-    e0: &mut [u8],
-    q1: &mut [u8],
-    e1: &mut [u8],
-) -> bool
-    requires { (F.sound field.now) × (((x < length q0.old) × (length q0.old ≤ field_size (F.model field.now))) × ((t < field_size (F.model field.now)) × (Pairs (F.model field.now) (length q0.old) q0.old e0.old q1.old e1.old))) }
-    ensures { Advanced (F.model field.now) (length q0.old) x t bounds q0.old e0.old q1.old e1.old q0.new e0.new q1.new e1.new result }
+fn advance<F: Field>(field: &F, x: usize, t: u8, first: &mut Pair, second: &mut Pair) -> bool
+    requires { (F.sound field.now) × (((x < length first.old.q.now) × (length first.old.q.now ≤ field_size (F.model field.now))) × ((t < field_size (F.model field.now)) × (Pairs (F.model field.now) (length first.old.q.now) first.old.q.now first.old.e.now second.old.q.now second.old.e.now))) }
+    ensures advanced { Advanced (F.model field.now) (length first.old.q.now) x t (first.old.bound, second.old.bound) first.old.q.now first.old.e.now second.old.q.now second.old.e.now first.new.q.now first.new.e.now second.new.q.now second.new.e.now result }
+    ensures lengths { Lengths (length first.old.q.now) first.new.q.now first.new.e.now second.new.q.now second.new.e.now }
+    ensures bounds { (first.new.bound ≡ first.old.bound) × (second.new.bound ≡ second.old.bound) }
 {
-    let gap0 = miss(field, t, q0[x], e0[x]);
-    let gap1 = miss(field, t, q1[x], e1[x]);
-    if gap0 != 0 && (gap1 == 0 || bounds.0 <= bounds.1) {
-        eliminate(field, x, (gap0, gap1), q0, e0, q1, e1);
+    let gap0 = first.miss(field, x, t);
+    let gap1 = second.miss(field, x, t);
+    if gap0 != 0 && (gap1 == 0 || first.bound <= second.bound) {
+        eliminate(field, x, gap0, first, gap1, second);
         return true;
     }
-    eliminate(field, x, (gap1, gap0), q1, e1, q0, e0);
+    eliminate(field, x, gap1, second, gap0, first);
     false
 }
 
@@ -77,31 +101,30 @@ fn solve<F: Field>(
     marks: &[u8],
     g: &[u8],
     p: &[u8],
-    q0: &mut [u8],
-    e0: &mut [u8],
-    q1: &mut [u8],
-    e1: &mut [u8],
+    first: &mut Pair,
+    second: &mut Pair,
 ) -> bool
-    requires { (F.sound field.now) × ((Readings (F.model field.now) word.now marks.now g.now p.now) × (Lengths (length word.now) q0.old e0.old q1.old e1.old)) }
-    ensures { Located (F.model field.now) (length word.now) word.now marks.now g.now p.now (if result then e0.new else e1.new) }
+    requires { (F.sound field.now) × ((Readings (F.model field.now) word.now marks.now g.now p.now) × (Lengths (length word.now) first.old.q.now first.old.e.now second.old.q.now second.old.e.now)) }
+    ensures located { Located (F.model field.now) (length word.now) word.now marks.now g.now p.now (if result then first.new.e.now else second.new.e.now) }
+    ensures lengths { Lengths (length word.now) first.new.q.now first.new.e.now second.new.q.now second.new.e.now }
 {
-    q0.fill(1);
-    e0.fill(0);
-    q1.fill(0);
-    e1.fill(1);
-    let mut b0 = 1;
-    let mut b1 = 0;
+    first.q.fill(1);
+    first.e.fill(0);
+    first.bound = 1;
+    second.q.fill(0);
+    second.e.fill(1);
+    second.bound = 0;
     for (x, y) in word.iter().enumerate() {
         if marks[x] == 0 && p[x] != 0 {
             let t = quotient(field, *y, g[x], p[x]);
-            if advance(field, x, t, (b0, b1), q0, e0, q1, e1) {
-                b0 += 1;
+            if advance(field, x, t, first, second) {
+                first.bound += 1;
             } else {
-                b1 += 1;
+                second.bound += 1;
             }
         }
     }
-    b0 <= b1
+    first.bound <= second.bound
 }
 
 /// Marks the blank places and those where e vanishes.
@@ -109,32 +132,8 @@ fn mark_roots(marks: &[u8], e: &[u8], skip: &mut [u8])
     requires { (length e.now ≡ length marks.now) × (length skip.old ≡ length marks.now) }
     ensures { Skips (length marks.now) marks.now e.now skip.new }
 {
-    for (x, mark) in marks.iter().enumerate() {
-        skip[x] = if *mark == 0 && e[x] != 0 { 0 } else { 1 };
-    }
-}
-
-/// Marks in `skip` each place but the readable ones that a solution of the key equation shows to be right. The other arrays are
-/// room to work in.
-fn locate_in<F: Field>(
-    field: &F,
-    word: &[u8],
-    marks: &[u8],
-    g: &[u8],
-    p: &[u8],
-    q0: &mut [u8],
-    e0: &mut [u8],
-    q1: &mut [u8],
-    e1: &mut [u8],
-    skip: &mut [u8],
-)
-    requires { (F.sound field.now) × ((Readings (F.model field.now) word.now marks.now g.now p.now) × ((Lengths (length word.now) q0.old e0.old q1.old e1.old) × (length skip.old ≡ length word.now))) }
-    ensures { Rightful (F.model field.now) word.now marks.now g.now p.now skip.new }
-{
-    if solve(field, word, marks, g, p, q0, e0, q1, e1) {
-        mark_roots(marks, e0, skip);
-    } else {
-        mark_roots(marks, e1, skip);
+    for (x, y) in skip.iter_mut().enumerate() {
+        *y = u8::from(marks[x] != 0 || e[x] == 0);
     }
 }
 
@@ -155,16 +154,19 @@ pub(crate) fn locate<F: Field>(
     let mut e0 = [0; 256];
     let mut q1 = [0; 256];
     let mut e1 = [0; 256];
-    locate_in(
-        field,
-        word,
-        marks,
-        g,
-        p,
-        &mut q0[0..n],
-        &mut e0[0..n],
-        &mut q1[0..n],
-        &mut e1[0..n],
-        skip,
-    )
+    let mut first = Pair {
+        q: &mut q0[..n],
+        e: &mut e0[..n],
+        bound: 1,
+    };
+    let mut second = Pair {
+        q: &mut q1[..n],
+        e: &mut e1[..n],
+        bound: 0,
+    };
+    if solve(field, word, marks, g, p, &mut first, &mut second) {
+        mark_roots(marks, first.e, skip);
+    } else {
+        mark_roots(marks, second.e, skip);
+    }
 }

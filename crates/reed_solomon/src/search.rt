@@ -41,26 +41,6 @@ fn guess<F: Field>(
     Ok(near)
 }
 
-/// The same as `find`, with room to work in.
-fn find_in<F: Field>(
-    field: &F,
-    k: usize,
-    word: &[u8],
-    marks: &[u8],
-    found: &mut [u8],
-    product: &mut [u8],
-    skip: &mut [u8],
-) -> Result<usize, Fault>
-    requires { (F.sound field.now) × ((Received (F.model field.now) k word.now marks.now) × (((length skip.old ≡ length word.now) × (length found.old ≡ length word.now) × (length product.old ≡ length word.now)) × (length word.now ≤ 256))) }
-    ensures { Found (F.model field.now) k word.now marks.now found.new result }
-{
-    if let Ok(near) = guess(field, k, word, marks, marks, found, product) {
-        return Ok(near);
-    }
-    locate(field, word, marks, found, product, skip);
-    guess(field, k, word, marks, skip, found, product)
-}
-
 /// Puts the codeword at harm below the distance into `found` and answers its harm; refuses with 12 where there is none. A
 /// word with little damage agrees with the values through its first readable places; otherwise the key equation shows places
 /// that are right.
@@ -74,34 +54,15 @@ fn find<F: Field>(
     requires { (F.sound field.now) × ((Received (F.model field.now) k word.now marks.now) × ((length found.old ≡ length word.now) × (length word.now ≤ 256))) }
     ensures { Found (F.model field.now) k word.now marks.now found.new result }
 {
-    let n = word.len();
-    let mut product = [0; 256];
-    let mut skip = [0; 256];
-    find_in(
-        field,
-        k,
-        word,
-        marks,
-        found,
-        &mut product[0..n],
-        &mut skip[0..n],
-    )
-}
-
-/// The same as `replace`, with room to work in.
-fn replace_in<F: Field>(
-    field: &F,
-    k: usize,
-    word: &mut [u8],
-    marks: &[u8],
-    found: &mut [u8],
-) -> Result<usize, Fault>
-    requires { (F.sound field.now) × ((Received (F.model field.now) k word.old marks.now) × ((length found.old ≡ length word.old) × (length word.old ≤ 256))) }
-    ensures { Replaced (F.model field.now) k word.old marks.now word.new result }
-{
-    let near = find(field, k, word, marks, found)?;
-    word.copy_from_slice(found);
-    Ok(near)
+    let mut room = [0; 256];
+    let product = &mut room[..word.len()];
+    if let Ok(near) = guess(field, k, word, marks, marks, found, product) {
+        return Ok(near);
+    }
+    let mut places = [0; 256];
+    let skip = &mut places[..word.len()];
+    locate(field, word, marks, found, product, skip);
+    guess(field, k, word, marks, skip, found, product)
 }
 
 /// Puts the codeword at harm below the distance in place of a word and answers its harm; refuses with 12 where there is none.
@@ -114,7 +75,9 @@ pub(crate) fn replace<F: Field>(
     requires { (F.sound field.now) × ((Received (F.model field.now) k word.old marks.now) × (length word.old ≤ 256)) }
     ensures { Replaced (F.model field.now) k word.old marks.now word.new result }
 {
-    let n = word.len();
-    let mut found = [0; 256];
-    replace_in(field, k, word, marks, &mut found[0..n])
+    let mut room = [0; 256];
+    let found = &mut room[..word.len()];
+    let near = find(field, k, word, marks, found)?;
+    word.copy_from_slice(found);
+    Ok(near)
 }

@@ -12,6 +12,7 @@ fn harm_of_three() -> usize
 }
 
 /// The harm of the worked example, which holds of the definitions.
+#[tactic(auto, using(crate::proofs::Examples::reed_solomon_example))]
 pub fn example_harm() -> usize
     ensures holds { ReedSolomonExample }
     ensures harm { result ≡ 6 }

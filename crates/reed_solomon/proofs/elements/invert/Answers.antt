@@ -4,11 +4,6 @@ use Rattle.field_laws.proofs.Reciprocals.{found_below}
 use Rattle.fields.proofs.Steps.{ok_one, same_value}
 use Rattle.reed_solomon.proofs.elements.invert.Goals as goal
 
-pub unwrap-requires : goal.unwrap-requires
-unwrap-requires g c =
-    let f : FieldModel = g.F.Field.model c.args.field.now in
-    rw (c.inverse.ensures c.requires.0 ∙ ok_one (size f) c.args.a (f.reciprocal c.args.a) c.requires.1.0) refl
-
 pub unwrap-requires-2 : goal.unwrap-requires-2
 unwrap-requires-2 g c =
     let f : FieldModel = g.F.Field.model c.args.field.now in

@@ -1,7 +1,7 @@
 use Rattle.std.proofs.Common.{◌≡◌, ℕ, ◌≤◌, length, get_or, sym, ap, ◌∙◌, subst, arith}
 use Rattle.std.proofs.lemmas.List.{get_or-replicate}
 use Rattle.field_laws.specs.Fields.{FieldModel, FieldLaws, size}
-use Rattle.reed_solomon_laws.proofs.Arrays.{Below, Interpolated, Taken, interpolated_none, interpolated_at, fresh, passed_over, chosen_more}
+use Rattle.reed_solomon_laws.proofs.Arrays.{Below, Taken, interpolated_none, interpolated_at, fresh, passed_over, chosen_more}
 use Rattle.reed_solomon.proofs.interpolation.through.Goals as goal
 use Rattle.reed_solomon.proofs.interpolation.through.Goals.{then-is_chosen, else-is_chosen}
 
@@ -66,10 +66,3 @@ loop-x-preserved g c =
         omega (arith, w.taken-is, c.loop-x.invariant.1),
       )
     ]
-
-pub returns : goal.returns
-returns g c =
-    let f : FieldModel = g.F.Field.model c.args.field.now in
-    let done : c.loop-x.x ≡ length c.args.symbols.now = omega (arith, c.loop-x-test.false, c.loop-x.auto.x-end) in
-    subst (λ (m : ℕ). Interpolated f m c.args.wanted c.args.symbols.now c.args.skip.now (length c.args.symbols.now) c.loop-x.v c.loop-x.p c.loop-x.taken) c.fill.ensures.len
-    (subst (λ (m : ℕ). Interpolated f (length c.fill.new.self) c.args.wanted c.args.symbols.now c.args.skip.now m c.loop-x.v c.loop-x.p c.loop-x.taken) done c.loop-x.invariant.0)

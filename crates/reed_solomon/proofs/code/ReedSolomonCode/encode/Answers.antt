@@ -1,7 +1,6 @@
-use Rattle.std.proofs.Common.{refl, arith, ap, is_err}
-use Rattle.words.proofs.Rises.{raised}
+use Rattle.std.proofs.Common.{arith}
 use Rattle.field_laws.specs.Fields.{FieldModel, FieldLaws}
-use Rattle.codes.proofs.Working.{unsound_raised, encode_passes, message_fits}
+use Rattle.codes.proofs.Working.{encode_passes, message_fits}
 use Rattle.reed_solomon_laws.specs.Words.{reed_solomon}
 use Rattle.reed_solomon_laws.proofs.Numbers.{size_most}
 use Rattle.reed_solomon.proofs.code.ReedSolomonCode.encode.Goals as goal
@@ -16,12 +15,3 @@ write_codeword-requires g c =
     let none = encode_passes model c.elements.result c.elements.ensures c.args.message.now c.args.word.now c.in_ok-check_encode.ensures in
     let fit = message_fits model c.args.message.now c.args.word.now none in
     (s.0, (((omega (arith, s.1.0, fit.1), omega (arith, s.1.1, fit.0.0), omega (arith, s.1.2, fit.0.0, fit.1)), fit.0.1), omega (arith, s.1.0, fit.1, size_most f laws)))
-
-pub returns-in_err-check : goal.returns-in_err-check
-returns-in_err-check g c =
-    let refused = c.in_err-check.ensures in
-    record {
-      sound = λ s. absurd (refused.sound s);
-      unsound = λ _. (ap is_err (raised _ c.from_residual.ensures.1), refl);
-      refused = λ _. unsound_raised _ c.from_residual.result c.from_residual.ensures.1 refused.refused;
-    }

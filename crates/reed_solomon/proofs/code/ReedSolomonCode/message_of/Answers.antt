@@ -1,11 +1,11 @@
-use Rattle.std.proofs.Common.{◌≡◌, ℕ, ◌-◌, ◌<◌, List, length, take, Ok, sym, refl, ap, ◌∙◌, subst, arith, is_err}
+use Rattle.std.proofs.Common.{◌≡◌, ℕ, ◌<◌, List, length, take, Ok, sym, refl, ap, ◌∙◌, subst, arith}
 use Rattle.std.proofs.ByRecursion.{All-take}
 use Rattle.std.proofs.lemmas.List.{length-take-le}
 use Rattle.words.proofs.Rises.{raised}
 use Rattle.field_laws.specs.Fields.{FieldModel, FieldLaws, size}
 use Rattle.codes.specs.Model.{Symbols}
 use Rattle.codes.specs.Promises.{Recovered}
-use Rattle.codes.proofs.Working.{unsound_raised, message_of_passes, word_fits, recovered, unrecovered}
+use Rattle.codes.proofs.Working.{message_of_passes, word_fits, recovered, unrecovered}
 use Rattle.reed_solomon_laws.specs.Words.{reed_solomon}
 use Rattle.reed_solomon_laws.proofs.Numbers.{size_most}
 use Rattle.reed_solomon.proofs.Outcomes.{begun}
@@ -22,16 +22,16 @@ recognize-requires g c =
     let model = reed_solomon f self.len k in
     let none = message_of_passes model c.elements.result c.elements.ensures c.args.message.now word c.in_ok-check_message_of.ensures in
     let fit = word_fits model c.args.message.now word none in
-    let long : length (take (k - 0) word) ≡ k = ap (λ m. length (take m word)) (omega arith) ∙ length-take-le k word (omega (arith, fit.0.0, s.1.2)) in
-    (s.0, (((omega (arith, s.1.0, fit.0.0), omega (arith, s.1.1, long), omega (arith, s.1.2, long, fit.0.0)), All-take (λ x. x < size f) (k - 0) word fit.0.1), omega (arith, s.1.0, fit.0.0, size_most f laws)))
+    let long : length (take k word) ≡ k = length-take-le k word (omega (arith, fit.0.0, s.1.2)) in
+    (s.0, (((omega (arith, s.1.0, fit.0.0), omega (arith, s.1.1, long), omega (arith, s.1.2, long, fit.0.0)), All-take (λ x. x < size f) k word fit.0.1), omega (arith, s.1.0, fit.0.0, size_most f laws)))
 
 -- the codeword of a beginning, with its lengths by other names
 same_code : (f : FieldModel) (n k m j : ℕ) (u v : List ℕ) → m ≡ n → j ≡ k → u ≡ v → (reed_solomon f m j).codeword u ≡ (reed_solomon f n k).codeword v
 same_code f n k m j u v em ej eu =
     ap (λ (a : ℕ). (reed_solomon f a j).codeword u) em ∙ ap (λ (a : ℕ). (reed_solomon f n a).codeword u) ej ∙ ap (reed_solomon f n k).codeword eu
 
-pub returns-in_err-recognize : goal.returns-in_err-recognize
-returns-in_err-recognize g c =
+pub returns-in_err-recognize-clause-sound : goal.returns-in_err-recognize-clause-sound
+returns-in_err-recognize-clause-sound g c =
     let self = c.args.self.now in
     let f : FieldModel = g.F.Field.model self.field in
     let s = c.in_ok-check.ensures.sound in
@@ -43,18 +43,13 @@ returns-in_err-recognize g c =
     let model = reed_solomon f n k in
     let none = message_of_passes model c.elements.result c.elements.ensures message word c.in_ok-check_message_of.ensures in
     let fit = word_fits model message word none in
-    let front : take (k - 0) word ≡ take k word = ap (λ (m : ℕ). take m word) (omega arith) in
     let long : length (take k word) ≡ k = length-take-le k word (omega (arith, fit.0.0, s.1.2)) in
     let far : (u : List ℕ) → Symbols f.width k u → (reed_solomon f n k).codeword u ≡ word → ⊥ = λ u su e.
-    c.in_err-recognize.ensures.1 (same_code f n k (length word) (length (take (k - 0) word)) (take (k - 0) word) (take k word) fit.0.0 (ap length front ∙ long) front ∙ begun f laws n k s.1 word u su e) in
-    record {
-      sound = λ _. rw (raised _ c.from_residual-in_err-recognize.ensures.1, c.in_err-recognize.ensures.0) (unrecovered model word message none far);
-      unsound = λ no. absurd (no s);
-      refused = λ no. absurd (no s);
-    }
+    c.in_err-recognize.ensures.1 (same_code f n k (length word) (length (take k word)) (take k word) (take k word) fit.0.0 long refl ∙ begun f laws n k s.1 word u su e) in
+    λ _. rw (raised _ c.from_residual-in_err-recognize.ensures.1, c.in_err-recognize.ensures.0) (unrecovered model word message none far)
 
-pub returns : goal.returns
-returns g c =
+pub returns-clause-sound : goal.returns-clause-sound
+returns-clause-sound g c =
     let self = c.args.self.now in
     let f : FieldModel = g.F.Field.model self.field in
     let s = c.in_ok-check.ensures.sound in
@@ -66,20 +61,6 @@ returns g c =
     let model = reed_solomon f n k in
     let none = message_of_passes model c.elements.result c.elements.ensures message word c.in_ok-check_message_of.ensures in
     let fit = word_fits model message word none in
-    let front : take (k - 0) word ≡ take k word = ap (λ (m : ℕ). take m word) (omega arith) in
     let long : length (take k word) ≡ k = length-take-le k word (omega (arith, fit.0.0, s.1.2)) in
-    let is : (reed_solomon f n k).codeword (take k word) ≡ word = sym (same_code f n k (length word) (length (take (k - 0) word)) (take (k - 0) word) (take k word) fit.0.0 (ap length front ∙ long) front) ∙ c.in_ok-recognize.ensures in
-    record {
-      sound = λ _. subst (λ (u : List ℕ). Recovered model word message u (Ok tt)) (sym (c.copy_from_slice.ensures.after ∙ front)) (recovered model word message (take k word) none (long, All-take (λ x. x < size f) k word fit.0.1) is);
-      unsound = λ no. absurd (no s);
-      refused = λ no. absurd (no s);
-    }
-
-pub returns-in_err-check : goal.returns-in_err-check
-returns-in_err-check g c =
-    let refused = c.in_err-check.ensures in
-    record {
-      sound = λ s. absurd (refused.sound s);
-      unsound = λ _. (ap is_err (raised _ c.from_residual.ensures.1), refl);
-      refused = λ _. unsound_raised _ c.from_residual.result c.from_residual.ensures.1 refused.refused;
-    }
+    let is : (reed_solomon f n k).codeword (take k word) ≡ word = sym (same_code f n k (length word) (length (take k word)) (take k word) (take k word) fit.0.0 long refl) ∙ c.in_ok-recognize.ensures in
+    λ _. subst (λ (u : List ℕ). Recovered model word message u (Ok tt)) (sym c.copy_from_slice.ensures.after) (recovered model word message (take k word) none (long, All-take (λ x. x < size f) k word fit.0.1) is)
