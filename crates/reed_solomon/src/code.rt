@@ -1,13 +1,13 @@
 // The Reed-Solomon code of a field, a length and a message length.
 ghost use Rattle.std.specs.Prelude.{◌≡◌};
-ghost use Rattle.field_laws.specs.Fields.{size as field_size};
+ghost use Rattle.codes.specs.Parameters.{parameters_of};
 ghost use Rattle.reed_solomon_laws.specs.Words.{InKind, reed_solomon};
 ghost use Rattle.reed_solomon.specs.Making.{Fits, Makes, Refused};
 ghost use Rattle.reed_solomon_laws.proofs.Laws.{reed_solomon_lawful};
 
 use crate::codewords::{recognize, write_codeword};
 use crate::search::replace;
-use codes::checks::{check_correct, check_encode, check_message_of};
+use codes::checks::Parameters;
 use codes::code::Code;
 use fields::field::Field;
 use words::fault::{Fault, Kind, Layer};
@@ -46,12 +46,17 @@ fn check_kind<F: Field>(field: &F, len: usize, message_len: usize) -> Result<(),
     Ok(())
 }
 
-/// How many elements a sound field has.
-fn elements<F: Field>(field: &F) -> usize
-    requires { F.sound field.now }
-    ensures { result ≡ field_size (F.model field.now) }
-{
-    1 << field.width()
+impl<F: Field> ReedSolomon<F> {
+    fn parameters(&self) -> Parameters
+        requires { F.Field.sound self.now.field }
+        ensures { result ≡ parameters_of (reed_solomon (F.Field.model self.now.field) self.now.len self.now.message_len) }
+    {
+        Parameters {
+            symbols: 1 << self.field.width(),
+            message_len: self.message_len,
+            len: self.len,
+        }
+    }
 }
 
 impl<F: Field> Code for ReedSolomon<F> {
@@ -85,26 +90,14 @@ impl<F: Field> Code for ReedSolomon<F> {
 
     fn encode(&self, message: &[u8], word: &mut [u8]) -> Result<(), Fault> {
         self.check()?;
-        check_encode(
-            elements(&self.field),
-            message,
-            self.message_len,
-            word,
-            self.len,
-        )?;
+        self.parameters().check_encode(message, word)?;
         write_codeword(&self.field, message, word);
         Ok(())
     }
 
     fn message_of(&self, word: &[u8], message: &mut [u8]) -> Result<(), Fault> {
         self.check()?;
-        check_message_of(
-            elements(&self.field),
-            message,
-            self.message_len,
-            word,
-            self.len,
-        )?;
+        self.parameters().check_message_of(word, message)?;
         recognize(&self.field, &word[..self.message_len], word)?;
         message.copy_from_slice(&word[..self.message_len]);
         Ok(())
@@ -112,7 +105,7 @@ impl<F: Field> Code for ReedSolomon<F> {
 
     fn correct(&self, word: &mut [u8], marks: &[u8]) -> Result<usize, Fault> {
         self.check()?;
-        check_correct(elements(&self.field), word, marks, self.len)?;
+        self.parameters().check_correct(word, marks)?;
         replace(&self.field, self.message_len, word, marks)
     }
 }

@@ -16,7 +16,7 @@ replace-requires g c =
     let word = c.args.word.now in
     let marks = c.args.marks.now in
     let model = reed_solomon f self.len self.message_len in
-    let none = correct_passes model c.elements.result c.elements.ensures word marks c.in_ok-check_correct.ensures in
+    let none = correct_passes model c.parameters.ensures word marks c.in_ok-check_correct.ensures in
     let fit = damage_fits model word marks none in
     (s.0, (((omega (arith, s.1.0, fit.0.0), s.1.1, omega (arith, s.1.2, fit.0.0)), fit.1.0 ∙ sym fit.0.0, (λ j l. All-get_or (λ x. x < size f) word j 0 l fit.0.1), fit.1.1), omega (arith, s.1.0, fit.0.0, size_most f laws)))
 
@@ -29,6 +29,6 @@ returns-clause-sound g c =
     let word = c.args.word.now in
     let marks = c.args.marks.now in
     let model = reed_solomon f self.len self.message_len in
-    let none = correct_passes model c.elements.result c.elements.ensures word marks c.in_ok-check_correct.ensures in
+    let none = correct_passes model c.parameters.ensures word marks c.in_ok-check_correct.ensures in
     let fit = damage_fits model word marks none in
     λ _. corrects f laws self.len self.message_len s.1 word marks fit.0.0 none c.replace.new.word c.replace.result c.replace.ensures

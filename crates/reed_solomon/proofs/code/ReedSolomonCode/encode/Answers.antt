@@ -12,6 +12,6 @@ write_codeword-requires g c =
     let s = c.in_ok-check.ensures.sound in
     let laws : FieldLaws f = g.met.F.Field.lawful self.field s.0 in
     let model = reed_solomon f self.len self.message_len in
-    let none = encode_passes model c.elements.result c.elements.ensures c.args.message.now c.args.word.now c.in_ok-check_encode.ensures in
+    let none = encode_passes model c.parameters.ensures c.args.message.now c.args.word.now c.in_ok-check_encode.ensures in
     let fit = message_fits model c.args.message.now c.args.word.now none in
     (s.0, (((omega (arith, s.1.0, fit.1), omega (arith, s.1.1, fit.0.0), omega (arith, s.1.2, fit.0.0, fit.1)), fit.0.1), omega (arith, s.1.0, fit.1, size_most f laws)))
