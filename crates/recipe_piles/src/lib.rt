@@ -5,3 +5,5 @@ mod chains_made;
 mod codes_made;
 pub mod making;
 pub mod parts;
+#[cfg(test)]
+mod tests;

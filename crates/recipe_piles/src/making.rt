@@ -6,7 +6,7 @@ ghost use Rattle.recipe_piles.specs.Parts.{codes_of};
 
 use crate::chains_made::make_chain;
 use crate::codes_made::make_codes;
-use crate::parts::{Parts, RecipeChain, StageCode};
+use crate::parts::{Parts, RecipeChain, RecipePile, StageCode};
 use chains::chain::Chain;
 use codes::code::Code;
 use piles::pile::Pile;
@@ -54,7 +54,7 @@ pub fn parts_of(recipe: &Recipe) -> Result<Parts, Fault>
 }
 
 /// The pile that a recipe describes. It is sound, and has the recipe's cells, message bits and reach.
-pub fn pile_of(recipe: &Recipe) -> Result<Pile<RecipeChain, StageCode>, Fault>
+pub fn pile_of(recipe: &Recipe) -> Result<RecipePile, Fault>
     ensures { Made (PileOf recipe.now.table) result }
 {
     let parts = parts_of(recipe)?;

@@ -8,6 +8,7 @@ use codes::repetition::Repetition;
 use either::Either;
 use fields::extension::Extension;
 use fields::polynomial::Polynomial;
+use piles::pile::Pile;
 use reed_solomon::code::ReedSolomon;
 
 /// A chain that a recipe can name.
@@ -18,6 +19,9 @@ pub type StageCode = Either<
     Either<Open, Repetition>,
     Either<ReedSolomon<Polynomial>, ReedSolomon<Extension<Polynomial>>>,
 >;
+
+/// The pile of a recipe: one type for every recipe, and a code.
+pub type RecipePile = Pile<RecipeChain, StageCode>;
 
 /// A chain, and a code for each of its stages.
 #[derive(Clone, Copy)]

@@ -1,4 +1,0 @@
-// The pile of a recipe as a code.
-#![tactic(auto)]
-
-pub mod code;
