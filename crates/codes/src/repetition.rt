@@ -12,6 +12,7 @@ use crate::code::Code;
 use crate::size::Size;
 use words::fault::{Fault, Kind, Layer};
 use words::harms::harm;
+use words::limits::MOST_CELLS;
 
 /// The repetition code of a width and a length: K = 1 and D = N.
 #[derive(Clone, Copy)]
@@ -46,6 +47,7 @@ fn count_symbols(word: &[u8], marks: &[u8], counts: &mut [u16; 256])
     requires { (length word.now ≤ 4096) × ((length marks.now ≡ length word.now) × (counts.old ≡ replicate 256 0)) }
     ensures { Counted word.now marks.now counts.new }
 {
+    // By index: over a zip the invariant would speak of pairs of references.
     for (i, symbol) in word.iter().enumerate() {
         if marks[i] == 0 {
             counts[usize::from(*symbol)] += 1;
@@ -81,7 +83,7 @@ fn harm_against(word: &[u8], marks: &[u8], symbol: u8) -> Result<usize, Fault>
     requires { (length word.now ≤ 4096) × ((length marks.now ≡ length word.now) × (AllByRecursion (λ m. m < 2) marks.now)) }
     ensures { result ≡ Ok (harm_of word.now marks.now (replicate (length word.now) symbol)) }
 {
-    let codeword = [symbol; 4096];
+    let codeword = [symbol; MOST_CELLS];
     harm(Layer::Code, word, marks, &codeword[0..word.len()])
 }
 

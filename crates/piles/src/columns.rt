@@ -47,6 +47,7 @@ pub(crate) fn lay_columns<H: Chain>(
     ensures { MatchResult result (λ _. cells.new ≡ laid (H.Chain.model chain.now) columns (words_in columns (H.Chain.model chain.now).stages words.now)) (λ _. ⊥) }
 {
     let breadth = chain.breadth();
+    // By index: of what `chunks_mut` lends, a proof knows nothing afterwards.
     for j in 0..columns {
         let start = breadth * j;
         lay_column(chain, words, columns, j, &mut cells[start..start + breadth])?;

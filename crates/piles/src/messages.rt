@@ -46,6 +46,7 @@ pub(crate) fn encode_stages<A: Code>(
     ensures { MatchResult result (λ _. words_in columns (length codes.now) words.new ≡ stage_words (map A.Code.model codes.now) message.now) (λ _. ⊥) }
 {
     let mut at = 0;
+    // By index: of what `chunks_mut` lends, a proof knows nothing afterwards.
     for (k, code) in codes.iter().enumerate() {
         let bits = bits_of(code);
         let start = columns * k;

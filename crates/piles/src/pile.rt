@@ -26,16 +26,17 @@ use chains::chain::Chain;
 use codes::checks::Parameters;
 use codes::code::Code;
 use words::fault::{Fault, Kind, Layer};
-use words::limits::MOST_CELLS;
+use words::limits::{MOST_CELLS, MOST_STAGES};
 
 /// The most labels of a pile: five for each of 4,096 columns.
-const MOST_LABELS: usize = 20480;
+const MOST_LABELS: usize = MOST_STAGES * MOST_CELLS;
 
 /// A chain and one outer code for each of its stages: a generalised concatenated code.
 #[derive(Clone, Copy)]
 pub struct Pile<H, A> {
     chain: H,
-    stages: [A; 5],
+    // An array and how much of it is used: the library has no heap, and the kit's ArrayVec wants a default for its free places.
+    stages: [A; MOST_STAGES],
     used: usize,
 }
 
@@ -71,10 +72,8 @@ impl<H: Chain + Copy, A: Code + Copy> Pile<H, A> {
         ensures { MatchResult result (λ (p : Pile H A). SoundPile (H.Chain.sound chain) (H.Chain.model chain) A.Code.model A.Code.sound codes.now × (p.chain ≡ chain) × (take p.used p.stages ≡ codes.now)) (RefusesPile (H.Chain.sound chain) (H.Chain.model chain) A.Code.model A.Code.sound A.Code.refuses codes.now) }
     {
         check_parts(&chain, codes)?;
-        let mut stages = [codes[0]; 5];
-        for (i, code) in codes.iter().enumerate() {
-            stages[i] = *code;
-        }
+        let mut stages = [codes[0]; MOST_STAGES];
+        stages[..codes.len()].copy_from_slice(codes);
         Ok(Pile {
             chain,
             stages,

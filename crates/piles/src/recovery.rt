@@ -19,6 +19,7 @@ fn spell_out(symbols: &[u8], width: usize, bits: &mut [u8])
     requires { (width ≤ 8) × (length bits.old ≡ length symbols.now * width) }
     ensures { bits.new ≡ spelled_out width symbols.now }
 {
+    // By index: of what `chunks_mut` lends, a proof knows nothing afterwards.
     for (i, symbol) in symbols.iter().enumerate() {
         let start = i * width;
         write_bits(u16::from(*symbol), &mut bits[start..start + width]);
@@ -50,6 +51,7 @@ pub(crate) fn recover_stages<A: Code>(
     ensures { MatchResult result (λ _. (us : List (List ℕ)) × EachMessage (map A.Code.model codes.now) us × (encoded (map A.Code.model codes.now) us ≡ words_in columns (length codes.now) words.now) × (bits.new ≡ joined_bits (map A.Code.model codes.now) us)) (λ _. ⊥) }
 {
     let mut at = 0;
+    // By index: of what `chunks_mut` lends, a proof knows nothing afterwards.
     for (k, code) in codes.iter().enumerate() {
         let count = bits_of(code);
         let start = columns * k;

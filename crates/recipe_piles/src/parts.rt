@@ -27,6 +27,7 @@ pub type RecipePile = Pile<RecipeChain, StageCode>;
 #[derive(Clone, Copy)]
 pub struct Parts {
     pub chain: RecipeChain,
+    // An array and how much of it is used, as in a pile.
     pub(crate) codes: [StageCode; 5],
     pub(crate) stages: usize,
     ghost few: { stages ≤ 5 },

@@ -54,7 +54,7 @@ impl fmt::Display for CodeKind {
 }
 
 impl ChainKind {
-    /// The chain that a recipe's first byte names.
+    /// The chain that a recipe's first byte names. An Option, since an error of TryFrom would say no more.
     pub fn named(byte: u8) -> Option<Self>
         ensures { result ≡ chain_named byte }
     {

@@ -95,6 +95,7 @@ impl Stage {
 pub struct Table {
     pub chain: ChainKind,
     pub columns: usize,
+    // A record for each stage that a chain can have: a recipe is Copy, which the kit's ArrayVec is not.
     pub stages: [Stage; MOST_STAGES],
 }
 
