@@ -56,7 +56,6 @@ impl Buffer<'_> {
     }
 }
 
-// Two passes, since all lengths are looked at before any content; `try_for_each` does not tell a proof which buffer failed.
 fn check_lengths(layer: Layer, buffers: &[Buffer<'_>]) -> Result<(), Fault>
     ensures { result ≡ checked (first_of (wrong_length layer) (map given buffers.now)) }
 {
