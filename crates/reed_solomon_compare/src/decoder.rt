@@ -177,11 +177,8 @@ impl Decoder<'_> {
         }
         let mut coefficients = matrix.relation(self.alloc, self.products)?;
         coefficients.truncate(k);
-        let mut values = Vec::with_capacity(self.alloc, n)?;
-        for x in (0..=255).take(n) {
-            values.push(self.value(&coefficients, x))?;
-        }
-        Ok(Some(values))
+        let values = (0..=255).take(n).map(|x| self.value(&coefficients, x));
+        Ok(Some(values.collect(self.alloc)?))
     }
 
     /// The values through places that are right, if at most t readable places are wrong.
@@ -225,10 +222,6 @@ impl Decoder<'_> {
             .filter(|((symbol, mark), right)| **mark == 0 && symbol != right)
             .count();
         let harm = blanks.saturating_add(wrong.saturating_mul(2));
-        Ok(if harm <= spare {
-            Some((harm, codeword))
-        } else {
-            None
-        })
+        Ok((harm <= spare).then_some((harm, codeword)))
     }
 }
