@@ -109,6 +109,7 @@ impl<F: Field> Below<'_, F> {
     }
 
     /// a·u + b·v
+    #[inline(always)]
     fn two_products(&self, a: u8, u: u8, b: u8, v: u8) -> Result<u8, Fault>
         ensures { TwoProducts (F.sound self.now.field.now) (F.model self.now.field.now) a u b v result }
     {
