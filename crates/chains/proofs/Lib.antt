@@ -7,4 +7,5 @@ pub mod MullerEstimates
 pub mod MullerExamples
 pub mod MullerSteps
 pub mod MullerTables
+pub mod Readings
 pub mod Sums

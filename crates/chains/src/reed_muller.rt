@@ -11,6 +11,7 @@ ghost use Rattle.chains.specs.MullerLaw.{muller_lawful};
 
 use crate::chain::{Chain, Estimate};
 use crate::checks::{Frame, check_stage};
+use crate::reading::Reading;
 use crate::tables::{number, subsets, widths};
 use words::bits::{spell, write_bits};
 use words::fault::{Fault, Kind, Layer};
@@ -112,15 +113,15 @@ impl ReedMuller {
     }
 
     // The row that the votes find, once the decided labels are taken off the reading.
-    fn find(&self, stage: usize, labels: &[u8], cells: &[u8], marks: &[u8]) -> Found
-        requires { ReadingFits (2 ^ self.now.r) (self.now.r + 1) (at_stage (muller_widths self.now.r)) stage labels.now cells.now marks.now }
+    fn find(&self, stage: usize, labels: &[u8], reading: &Reading<'_>) -> Found
+        requires { ReadingFits (2 ^ self.now.r) (self.now.r + 1) (at_stage (muller_widths self.now.r)) stage labels.now reading.now.cells.now reading.now.marks.now }
         ensures count { result.count ≡ length (decided_bits self.now.r labels.now) }
-        ensures bits { result.bits ≡ spelled (found_bits self.now.r labels.now cells.now marks.now) }
-        ensures harm { result.harm ≡ found_harm self.now.r labels.now cells.now marks.now }
+        ensures bits { result.bits ≡ spelled (found_bits self.now.r labels.now reading.now.cells.now reading.now.marks.now) }
+        ensures harm { result.harm ≡ found_harm self.now.r labels.now reading.now.cells.now reading.now.marks.now }
     {
         let decided = self.join(labels);
-        let blank = spell(marks);
-        let begun = self.take_off(decided.bits, decided.count, spell(cells));
+        let blank = spell(reading.marks);
+        let begun = self.take_off(decided.bits, decided.count, spell(reading.cells));
         let settled = self.settle(decided.count, begun, blank);
         Found {
             count: decided.count,
@@ -130,11 +131,11 @@ impl ReedMuller {
     }
 
     // The label at a stage of the row that the votes find, if that row lies near enough.
-    fn nearest(&self, stage: usize, labels: &[u8], cells: &[u8], marks: &[u8]) -> Option<Estimate>
-        requires { ReadingFits (2 ^ self.now.r) (self.now.r + 1) (at_stage (muller_widths self.now.r)) stage labels.now cells.now marks.now }
-        ensures { Estimates (muller_chain self.now.r) stage labels.now cells.now marks.now result }
+    fn nearest(&self, stage: usize, labels: &[u8], reading: &Reading<'_>) -> Option<Estimate>
+        requires { ReadingFits (2 ^ self.now.r) (self.now.r + 1) (at_stage (muller_widths self.now.r)) stage labels.now reading.now.cells.now reading.now.marks.now }
+        ensures { Estimates (muller_chain self.now.r) stage labels.now reading.now.cells.now reading.now.marks.now result }
     {
-        let found = self.find(stage, labels, cells, marks);
+        let found = self.find(stage, labels, reading);
         if found.harm < 1 << (stage - 1) {
             let label = self.first_label(stage, found.count, found.bits);
             Some(Estimate {
@@ -266,6 +267,6 @@ impl Chain for ReedMuller {
         marks: &[u8],
     ) -> Result<Option<Estimate>, Fault> {
         self.frame().check_reading(stage, labels, cells, marks)?;
-        Ok(self.nearest(stage, labels, cells, marks))
+        Ok(self.nearest(stage, labels, &Reading { cells, marks }))
     }
 }
