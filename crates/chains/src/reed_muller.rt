@@ -6,7 +6,7 @@ ghost use Rattle.chains.specs.Model.{Cells, LabelsFrom, at_stage};
 ghost use Rattle.chains.specs.Promises.{Estimates};
 ghost use Rattle.chains.specs.ReedMuller.{MullerRange, muller_widths, muller_word, muller_chain, order, row_bits};
 ghost use Rattle.chains.specs.Refusals.{outside, RowFits, ReadingFits};
-ghost use Rattle.chains.specs.Votes.{column, columns, turned, laid, settled, elected, subsets, decided_bits, found_bits, found_harm};
+ghost use Rattle.chains.specs.Votes.{column, columns, turned, laid, settled, votes, elected, subsets, decided_bits, found_bits, found_harm};
 ghost use Rattle.chains.specs.MullerLaw.{muller_lawful};
 
 use crate::chain::{Chain, Estimate};
@@ -77,22 +77,27 @@ impl ReedMuller {
         rest
     }
 
-    // The bit numbered s, as most of the sets vote from which it can be read: each has the cells with the same ones
-    // outside s.
+    // How many of the sets from which the bit numbered s can be read vote for b. Each has the cells with the same ones
+    // outside s. A chain over the range would leave the bound of the shift open.
+    fn votes(&self, b: u32, s: usize, word: u16, blank: u16) -> usize
+        requires { s < 2 ^ self.now.r }
+        ensures { result ≡ votes b (column self.now.r s).checks (bits_of (2 ^ self.now.r) word) (bits_of (2 ^ self.now.r) blank) }
+    {
+        let mut votes = 0;
+        for a in 0..self.cells() {
+            if a & s == 0 {
+                votes += usize::from(speaks(b, subsets(s) << a, word, blank));
+            }
+        }
+        votes
+    }
+
+    // The bit numbered s, as most of its sets vote.
     fn vote(&self, s: usize, word: u16, blank: u16) -> u16
         requires { s < 2 ^ self.now.r }
         ensures { result ≡ elected (column self.now.r s).checks (bits_of (2 ^ self.now.r) word) (bits_of (2 ^ self.now.r) blank) }
     {
-        let mut zeros = 0;
-        let mut ones = 0;
-        for a in 0..self.cells() {
-            if a & s == 0 {
-                let set = subsets(s) << a;
-                zeros += speaks(0, set, word, blank);
-                ones += speaks(1, set, word, blank);
-            }
-        }
-        if zeros < ones { 1 } else { 0 }
+        u16::from(self.votes(0, s, word, blank) < self.votes(1, s, word, blank))
     }
 
     // Votes for the bits from place `from` on, each taken off before the next.
@@ -206,14 +211,10 @@ fn bit_at(bits: u16, count: usize, t: usize) -> u16
 }
 
 // A set of cells votes for b if it has no blank cell and the sum b.
-fn speaks(b: u32, set: u16, word: u16, blank: u16) -> usize
-    ensures { result ≡ (if nat_eq (bit_and blank set) 0 && count_ones (bit_and word set) % 2 == b then 1 else 0) }
+fn speaks(b: u32, set: u16, word: u16, blank: u16) -> bool
+    ensures { result ≡ (nat_eq (bit_and blank set) 0 && count_ones (bit_and word set) % 2 == b) }
 {
-    if blank & set == 0 && (word & set).count_ones() % 2 == b {
-        1
-    } else {
-        0
-    }
+    blank & set == 0 && (word & set).count_ones() % 2 == b
 }
 
 // The harm of a reading, by its blank cells and what is left of it: a blank cell counts once, and not twice.
