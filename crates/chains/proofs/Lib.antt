@@ -1,7 +1,6 @@
 pub mod Due
 pub mod EvenBits
 pub mod EvenEstimates
-pub mod Labels
 pub mod Masks
 pub mod MullerEstimates
 pub mod MullerExamples
