@@ -1,5 +1,6 @@
 // The Reed-Muller chain of 2^r cells. A bit's number is a set of coordinates, as a cell's is, and a bit turns the
 // cells that have all of its ones. Words are numbers here, the first cell most significant.
+// Each word lies below 2^2^r, which stays a clause: a type for it would have to hold r beside the word.
 ghost use Rattle.std.specs.Prelude.{◌≡◌, ◌+◌, ◌-◌, ◌*◌, ◌/◌, ◌%◌, ◌^◌, ◌<◌, ◌≤◌, ◌&&◌, length, drop, if◌then◌else◌, MatchResult, ◌==◌, bit_and, bit_or, count_ones, nat_eq, slice_index};
 ghost use Rattle.chains.specs.Bits.{bits_of, spelled};
 ghost use Rattle.chains.specs.Model.{Cells, LabelsFrom, at_stage};
