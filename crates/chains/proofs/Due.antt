@@ -1,21 +1,11 @@
--- Which of several refusals is due: the first. Assumes nothing.
+-- What is answered where a refusal is due, and where none is. Assumes nothing.
 use Rattle.std.proofs.Common.{◌≡◌, ℕ, List, length, Some, None, Ok, Err, Option, Result, sym, ap, ◌∙◌, ap₂, arith}
 use Rattle.words.specs.declared.fault.Fault.{Fault}
-use Rattle.words.specs.Buffers.{either, checked}
+use Rattle.words.specs.Buffers.{checked}
 use Rattle.words.proofs.Rises.{checked_ok}
 use Rattle.chains.specs.Model.{at_stage}
 use Rattle.chains.specs.Promises.{Answered}
 use Rattle.chains.specs.Refusals.{word_refusal, estimate_refusal}
-
-pub passed : {X : Type 0} {x : Option X} (y : Option X) → x ≡ None → either x y ≡ y
-passed y e = ap (λ z. either z y) e
-
-pub stopped : {X : Type 0} {x : Option X} {f : X} (y : Option X) → x ≡ Some f → either x y ≡ Some f
-stopped y e = ap (λ z. either z y) e
-
--- of three that pass, the fourth decides
-pub fourth : {X : Type 0} {x y z : Option X} (w : Option X) → x ≡ None → y ≡ None → z ≡ None → either x (either y (either z w)) ≡ w
-fourth w ex ey ez = passed _ ex ∙ passed _ ey ∙ passed w ez
 
 pub answers : {X : Type 0} (due : Option Fault) (P : X → Type 0) (x : X) → due ≡ None → P x → Answered due P (Ok x)
 answers None P x e p = p

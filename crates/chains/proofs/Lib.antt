@@ -1,10 +1,10 @@
 pub mod Due
 pub mod EvenBits
 pub mod EvenEstimates
-pub mod Labels
 pub mod Masks
 pub mod MullerEstimates
 pub mod MullerExamples
 pub mod MullerSteps
 pub mod MullerTables
+pub mod Readings
 pub mod Sums

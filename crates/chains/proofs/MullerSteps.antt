@@ -5,7 +5,7 @@ use lib.Count.{ones}
 use Rattle.std.specs.List.{AllByRecursion}
 use Rattle.std.proofs.ByRecursion.{All-get_or}
 use Rattle.std.proofs.lemmas.List.{drop_all, drop_more, take_all, get_or-map, length-drop, length-map}
-use Rattle.std.proofs.lemmas.Bool.{cases_eq, lt-ltb, le-ltb, eq-eqb, ne_eqb, cond-true, cond-false}
+use Rattle.std.proofs.lemmas.Bool.{cases_eq, eq-eqb, ne_eqb, cond-false}
 use Rattle.chains.specs.Bits.{bits_of, spelled, total}
 use Rattle.chains.specs.Model.{LabelsFrom, at_stage}
 use Rattle.chains.specs.ReedMuller.{MullerRange, counted, muller_widths, order, row_bits}
@@ -128,13 +128,6 @@ pub votes_over : (n s a b z all : ℕ) (cells marks : List ℕ) → n ≤ a → 
 votes_over n s a b z all cells marks h e =
     let none = ap (λ xs. votes b (check_sets n s xs) cells marks) (drop_all a (counted 0 n) (omega (arith, length_counted 0 n))) in
     omega (arith, e, none)
-
--- the election, once all are counted
-pub elect_one : (sets : List (List ℕ)) (cells marks : List ℕ) (z o : ℕ) → z ≡ votes 0 sets cells marks → o ≡ votes 1 sets cells marks → z < o → 1 ≡ elected sets cells marks
-elect_one sets cells marks z o ez eo h = sym (cond-true _ 1 0 (lt-ltb _ _ (omega (arith, ez, eo))))
-
-pub elect_zero : (sets : List (List ℕ)) (cells marks : List ℕ) (z o : ℕ) → z ≡ votes 0 sets cells marks → o ≡ votes 1 sets cells marks → o ≤ z → 0 ≡ elected sets cells marks
-elect_zero sets cells marks z o ez eo h = sym (cond-false _ 1 0 (le-ltb _ _ (omega (arith, ez, eo))))
 
 heads : {x y : ℕ} {xs ys : List ℕ} → x ∷ xs ≡ y ∷ ys → x ≡ y
 heads e = cc

@@ -9,6 +9,7 @@ ghost use Rattle.chains.specs.EvenWords.{even_lawful};
 
 use crate::chain::{Chain, Estimate};
 use crate::checks::{Frame, check_stage};
+use crate::reading::Reading;
 use words::bits::{spell, write_bits};
 use words::fault::{Fault, Kind, Layer};
 
@@ -58,25 +59,25 @@ impl Even {
     }
 
     // The number that the first n - 1 cells spell, once the blank ones are turned where `flip` is 1.
-    fn spell_turned(&self, flip: u8, cells: &[u8], marks: &[u8]) -> u8
-        requires { (Cells self.now.n cells.now) × ((Cells self.now.n marks.now) × (flip < 2)) }
-        ensures { result ≡ spelled (take (self.now.n - 1) (filled flip cells.now marks.now)) }
+    fn spell_turned(&self, flip: u8, reading: &Reading<'_>) -> u8
+        requires { (length reading.now.cells.now ≡ self.now.n) × (flip < 2) }
+        ensures { result ≡ spelled (take (self.now.n - 1) (filled flip reading.now.cells.now reading.now.marks.now)) }
     {
-        let number = self.spell_front(cells);
+        let number = self.spell_front(reading.cells);
         if flip == 0 {
             number
         } else {
-            number ^ self.spell_front(marks)
+            number ^ self.spell_front(reading.marks)
         }
     }
 
     // Only a reading without a blank has harm below 1 against some word: its own.
-    fn estimate_first(&self, cells: &[u8], marks: &[u8]) -> Option<Estimate>
-        requires { (Cells self.now.n cells.now) × (Cells self.now.n marks.now) }
-        ensures { Estimates (even_chain self.now.n) 1 [] cells.now marks.now result }
+    fn estimate_first(&self, reading: &Reading<'_>) -> Option<Estimate>
+        requires { length reading.now.cells.now ≡ self.now.n }
+        ensures { Estimates (even_chain self.now.n) 1 [] reading.now.cells.now reading.now.marks.now result }
     {
-        if ones_of(marks) == 0 {
-            let label = parity_of(cells);
+        if ones_of(reading.marks) == 0 {
+            let label = parity_of(reading.cells);
             Some(Estimate { label, harm: 0 })
         } else {
             None
@@ -85,16 +86,16 @@ impl Even {
 
     // One blank cell takes whatever makes `odd` the exclusive or of all. Without one the reading must be right as it
     // stands, and two blanks lie too far.
-    fn estimate_second(&self, odd: u8, cells: &[u8], marks: &[u8]) -> Option<Estimate>
-        requires { (Cells self.now.n cells.now) × ((Cells self.now.n marks.now) × (odd < 2)) }
-        ensures { Estimates (even_chain self.now.n) 2 (odd ∷ []) cells.now marks.now result }
+    fn estimate_second(&self, odd: u8, reading: &Reading<'_>) -> Option<Estimate>
+        requires { (length reading.now.cells.now ≡ self.now.n) × (odd < 2) }
+        ensures { Estimates (even_chain self.now.n) 2 (odd ∷ []) reading.now.cells.now reading.now.marks.now result }
     {
-        let blanks = ones_of(marks);
-        let flip = odd ^ parity_of(cells);
+        let blanks = ones_of(reading.marks);
+        let flip = odd ^ parity_of(reading.cells);
         if blanks < usize::from(flip) || 1 < blanks {
             return None;
         }
-        let label = self.spell_turned(flip, cells, marks);
+        let label = self.spell_turned(flip, reading);
         Some(Estimate {
             label,
             harm: blanks,
@@ -172,10 +173,11 @@ impl Chain for Even {
             widths: &self.widths(),
         };
         frame.check_reading(stage, labels, cells, marks)?;
+        let reading = Reading { cells, marks };
         if stage == 1 {
-            Ok(self.estimate_first(cells, marks))
+            Ok(self.estimate_first(&reading))
         } else {
-            Ok(self.estimate_second(labels[0], cells, marks))
+            Ok(self.estimate_second(labels[0], &reading))
         }
     }
 }

@@ -6,6 +6,7 @@ mod checks;
 pub mod derived;
 pub mod even;
 pub mod examples;
+mod reading;
 pub mod reed_muller;
 mod sides;
 mod tables;

@@ -1,16 +1,18 @@
 // The Reed-Muller chain of 2^r cells. A bit's number is a set of coordinates, as a cell's is, and a bit turns the
 // cells that have all of its ones. Words are numbers here, the first cell most significant.
+// Each word lies below 2^2^r, which stays a clause: a type for it would have to hold r beside the word.
 ghost use Rattle.std.specs.Prelude.{◌≡◌, ◌+◌, ◌-◌, ◌*◌, ◌/◌, ◌%◌, ◌^◌, ◌<◌, ◌≤◌, ◌&&◌, length, drop, if◌then◌else◌, MatchResult, ◌==◌, bit_and, bit_or, count_ones, nat_eq, slice_index};
 ghost use Rattle.chains.specs.Bits.{bits_of, spelled};
 ghost use Rattle.chains.specs.Model.{Cells, LabelsFrom, at_stage};
 ghost use Rattle.chains.specs.Promises.{Estimates};
 ghost use Rattle.chains.specs.ReedMuller.{MullerRange, muller_widths, muller_word, muller_chain, order, row_bits};
 ghost use Rattle.chains.specs.Refusals.{outside, RowFits, ReadingFits};
-ghost use Rattle.chains.specs.Votes.{column, columns, turned, laid, settled, elected, subsets, decided_bits, found_bits, found_harm};
+ghost use Rattle.chains.specs.Votes.{column, columns, turned, laid, settled, votes, elected, subsets, decided_bits, found_bits, found_harm};
 ghost use Rattle.chains.specs.MullerLaw.{muller_lawful};
 
 use crate::chain::{Chain, Estimate};
 use crate::checks::{Frame, check_stage};
+use crate::reading::Reading;
 use crate::tables::{number, subsets, widths};
 use words::bits::{spell, write_bits};
 use words::fault::{Fault, Kind, Layer};
@@ -76,22 +78,27 @@ impl ReedMuller {
         rest
     }
 
-    // The bit numbered s, as most of the sets vote from which it can be read: each has the cells with the same ones
-    // outside s.
+    // How many of the sets from which the bit numbered s can be read vote for b. Each has the cells with the same ones
+    // outside s. A chain over the range would leave the bound of the shift open.
+    fn votes(&self, b: u32, s: usize, word: u16, blank: u16) -> usize
+        requires { s < 2 ^ self.now.r }
+        ensures { result ≡ votes b (column self.now.r s).checks (bits_of (2 ^ self.now.r) word) (bits_of (2 ^ self.now.r) blank) }
+    {
+        let mut votes = 0;
+        for a in 0..self.cells() {
+            if a & s == 0 {
+                votes += usize::from(speaks(b, subsets(s) << a, word, blank));
+            }
+        }
+        votes
+    }
+
+    // The bit numbered s, as most of its sets vote.
     fn vote(&self, s: usize, word: u16, blank: u16) -> u16
         requires { s < 2 ^ self.now.r }
         ensures { result ≡ elected (column self.now.r s).checks (bits_of (2 ^ self.now.r) word) (bits_of (2 ^ self.now.r) blank) }
     {
-        let mut zeros = 0;
-        let mut ones = 0;
-        for a in 0..self.cells() {
-            if a & s == 0 {
-                let set = subsets(s) << a;
-                zeros += speaks(0, set, word, blank);
-                ones += speaks(1, set, word, blank);
-            }
-        }
-        if zeros < ones { 1 } else { 0 }
+        u16::from(self.votes(0, s, word, blank) < self.votes(1, s, word, blank))
     }
 
     // Votes for the bits from place `from` on, each taken off before the next.
@@ -112,15 +119,15 @@ impl ReedMuller {
     }
 
     // The row that the votes find, once the decided labels are taken off the reading.
-    fn find(&self, stage: usize, labels: &[u8], cells: &[u8], marks: &[u8]) -> Found
-        requires { ReadingFits (2 ^ self.now.r) (self.now.r + 1) (at_stage (muller_widths self.now.r)) stage labels.now cells.now marks.now }
+    fn find(&self, stage: usize, labels: &[u8], reading: &Reading<'_>) -> Found
+        requires { ReadingFits (2 ^ self.now.r) (self.now.r + 1) (at_stage (muller_widths self.now.r)) stage labels.now reading.now.cells.now reading.now.marks.now }
         ensures count { result.count ≡ length (decided_bits self.now.r labels.now) }
-        ensures bits { result.bits ≡ spelled (found_bits self.now.r labels.now cells.now marks.now) }
-        ensures harm { result.harm ≡ found_harm self.now.r labels.now cells.now marks.now }
+        ensures bits { result.bits ≡ spelled (found_bits self.now.r labels.now reading.now.cells.now reading.now.marks.now) }
+        ensures harm { result.harm ≡ found_harm self.now.r labels.now reading.now.cells.now reading.now.marks.now }
     {
         let decided = self.join(labels);
-        let blank = spell(marks);
-        let begun = self.take_off(decided.bits, decided.count, spell(cells));
+        let blank = spell(reading.marks);
+        let begun = self.take_off(decided.bits, decided.count, spell(reading.cells));
         let settled = self.settle(decided.count, begun, blank);
         Found {
             count: decided.count,
@@ -130,11 +137,11 @@ impl ReedMuller {
     }
 
     // The label at a stage of the row that the votes find, if that row lies near enough.
-    fn nearest(&self, stage: usize, labels: &[u8], cells: &[u8], marks: &[u8]) -> Option<Estimate>
-        requires { ReadingFits (2 ^ self.now.r) (self.now.r + 1) (at_stage (muller_widths self.now.r)) stage labels.now cells.now marks.now }
-        ensures { Estimates (muller_chain self.now.r) stage labels.now cells.now marks.now result }
+    fn nearest(&self, stage: usize, labels: &[u8], reading: &Reading<'_>) -> Option<Estimate>
+        requires { ReadingFits (2 ^ self.now.r) (self.now.r + 1) (at_stage (muller_widths self.now.r)) stage labels.now reading.now.cells.now reading.now.marks.now }
+        ensures { Estimates (muller_chain self.now.r) stage labels.now reading.now.cells.now reading.now.marks.now result }
     {
-        let found = self.find(stage, labels, cells, marks);
+        let found = self.find(stage, labels, reading);
         if found.harm < 1 << (stage - 1) {
             let label = self.first_label(stage, found.count, found.bits);
             Some(Estimate {
@@ -205,14 +212,10 @@ fn bit_at(bits: u16, count: usize, t: usize) -> u16
 }
 
 // A set of cells votes for b if it has no blank cell and the sum b.
-fn speaks(b: u32, set: u16, word: u16, blank: u16) -> usize
-    ensures { result ≡ (if nat_eq (bit_and blank set) 0 && count_ones (bit_and word set) % 2 == b then 1 else 0) }
+fn speaks(b: u32, set: u16, word: u16, blank: u16) -> bool
+    ensures { result ≡ (nat_eq (bit_and blank set) 0 && count_ones (bit_and word set) % 2 == b) }
 {
-    if blank & set == 0 && (word & set).count_ones() % 2 == b {
-        1
-    } else {
-        0
-    }
+    blank & set == 0 && (word & set).count_ones() % 2 == b
 }
 
 // The harm of a reading, by its blank cells and what is left of it: a blank cell counts once, and not twice.
@@ -266,6 +269,6 @@ impl Chain for ReedMuller {
         marks: &[u8],
     ) -> Result<Option<Estimate>, Fault> {
         self.frame().check_reading(stage, labels, cells, marks)?;
-        Ok(self.nearest(stage, labels, cells, marks))
+        Ok(self.nearest(stage, labels, &Reading { cells, marks }))
     }
 }

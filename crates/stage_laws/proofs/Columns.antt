@@ -1,13 +1,9 @@
--- One column after the other: a step of each loop over the estimates. Assumes nothing.
-use Rattle.std.proofs.Common.{◌≡◌, ℕ, suc, ◌+◌, ◌-◌, ◌*◌, ◌^◌, ◌<◌, ◌≤◌, true, false, cond, eqb, ltb, List, [], ◌∷◌, ◌++◌, map, length, get_or, take, drop, set, sum_by, zip, Some, None, Option, sym, refl, ap, ◌∙◌, ap₂, add-one, mul-le-mul_right, arith, pow_pos}
+-- The score over the columns, and what the checks of the columns have shown. Assumes nothing.
+use Rattle.std.proofs.Common.{◌≡◌, ℕ, suc, ◌+◌, ◌-◌, ◌*◌, ◌^◌, ◌<◌, ◌≤◌, true, false, cond, eqb, ltb, List, [], ◌∷◌, length, sum_by, zip, Some, None, Option, sym, refl, ap, ◌∙◌, mul-le-mul_right, arith, pow_pos}
 use Rattle.std.proofs.Math.Nat.{suc-mul}
 use Rattle.std.specs.List.{AllByRecursion}
-use Rattle.std.proofs.lemmas.List.{at_drop_more, at_drop_all, take_more_set, map_more}
 use Rattle.std.proofs.lemmas.List.Sums.{sum_by-cons}
 use Rattle.std.proofs.lemmas.Bool.{and_parts, eqb-true, ltb-true}
-use Rattle.words.specs.declared.fault.Kind.TheVariants.{TooLarge}
-use Rattle.words.specs.declared.fault.Layer.TheVariants.{Pile}
-use Rattle.words.specs.Faults.{fault}
 use Rattle.words.proofs.Passes.{none_left, none_right, passed, passed_on}
 use Rattle.chains.specs.declared.chain.Estimate.{Estimate}
 use Rattle.codes.specs.Model.{CodeModel}
@@ -35,26 +31,6 @@ score_small d (e ∷ es) (x ∷ word) w = omega (arith, at_most_twice d e x w.0,
 pub score_fits : (d : ℕ) (es : List (Option Estimate)) (word : List ℕ) → d < 256 → length es ≤ 4096 → AllByRecursion (Within d) es → sum_by (λ (p : Option Estimate × ℕ). score_at d p.0 p.1) (zip es word) < 2 ^ 64
 score_fits d es word small short w =
     omega (arith, sym (score_summed d es word), score_small d es word w, mul-le-mul_right (2 * d) short)
-
--- one more place is written
-pub filled_more : (f : Option Estimate → ℕ) (es : List (Option Estimate)) (xs : List ℕ) (j x : ℕ) → j < length es → j < length xs → take j xs ≡ map f (take j es) → x ≡ f (get_or es j None) → take (j + 1) (set xs j x) ≡ map f (take (j + 1) es)
-filled_more f es xs j x le lx so_far here =
-    take_more_set xs j x lx ∙ ap₂ (λ (a : List ℕ) (b : ℕ). a ++ b ∷ []) so_far here ∙ sym (map_more f es j None le)
-
-module _ (symbols d : ℕ) (es : List (Option Estimate)) (j : ℕ) where
-  pub large_more : j < length es → true ≡ fits_column symbols d (get_or es j None) → first_large symbols d j (drop j es) ≡ first_large symbols d (j + 1) (drop (j + 1) es)
-  large_more h fits =
-      at_drop_more (first_large symbols d j) es j None h
-      ∙ ap (λ t. cond t (first_large symbols d (suc j) (drop (j + 1) es)) (Some (fault TooLarge Pile j))) (sym fits)
-      ∙ ap (λ k. first_large symbols d k (drop (j + 1) es)) (sym (add-one j))
-
-  pub large_found : j < length es → false ≡ fits_column symbols d (get_or es j None) → first_large symbols d j (drop j es) ≡ Some (fault TooLarge Pile j)
-  large_found h fits =
-      at_drop_more (first_large symbols d j) es j None h
-      ∙ ap (λ t. cond t (first_large symbols d (suc j) (drop (j + 1) es)) (Some (fault TooLarge Pile j))) (sym fits)
-
-  pub large_none : length es ≤ j → first_large symbols d j (drop j es) ≡ None
-  large_none h = at_drop_all (first_large symbols d j) es j h
 
 -- what the checks have shown once they pass
 column_fits : (symbols d : ℕ) (e : Option Estimate) → 0 < symbols → fits_column symbols d e ≡ true → (trial_symbol e < symbols) × Within d e

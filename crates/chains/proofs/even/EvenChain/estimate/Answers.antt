@@ -7,6 +7,7 @@ use Rattle.chains.specs.Model.{at_stage, LabelsFrom}
 use Rattle.chains.specs.Promises.{Estimates}
 use Rattle.chains.specs.Refusals.{estimate_refusal, ReadingFits}
 use Rattle.chains.proofs.Due.{same_reading, reading_passed, answers, refuses}
+use Rattle.chains.proofs.Readings.{binary_rows}
 use Rattle.chains.specs.Fits.{reading_fits}
 use Rattle.chains.proofs.even.EvenChain.estimate.Goals as goal
 
@@ -27,16 +28,27 @@ returns-in_err-check_reading c =
     let due = sym (same_reading c.args.stage labels cells marks c.from.ensures c.widths.ensures refl) ∙ checked_err _ c.in_err-check_reading.ensures in
     (λ _. refuses _ (Estimates (even_chain c.args.self.now.n) c.args.stage labels cells marks) c.from_residual.result due (raised _ c.from_residual.ensures.1), λ no. absurd (no tt))
 
+pub invariant_of-reading : goal.invariant_of-reading
+invariant_of-reading c =
+    let fits = reading c.args.self.now.n c.args.stage c.args.labels.now c.args.cells.now c.args.marks.now c.from.ensures c.widths.ensures c.in_ok-check_reading.ensures in
+    let rows = binary_rows _ _ _ fits.cells_fit fits.marks_fit in
+    record { paired = rows.0; cells_small = rows.1; marks_small = rows.2 }
+
+pub invariant_of-reading-else-stage-eq1 : goal.invariant_of-reading-else-stage-eq1
+invariant_of-reading-else-stage-eq1 c =
+    let fits = reading c.args.self.now.n c.args.stage c.args.labels.now c.args.cells.now c.args.marks.now c.from.ensures c.widths.ensures c.in_ok-check_reading.ensures in
+    let rows = binary_rows _ _ _ fits.cells_fit fits.marks_fit in
+    record { paired = rows.0; cells_small = rows.1; marks_small = rows.2 }
+
 pub estimate_first-requires : goal.estimate_first-requires
 estimate_first-requires c =
-    let fits = reading c.args.self.now.n c.args.stage c.args.labels.now c.args.cells.now c.args.marks.now c.from.ensures c.widths.ensures c.in_ok-check_reading.ensures in
-    (fits.cells_fit, fits.marks_fit)
+    (reading c.args.self.now.n c.args.stage c.args.labels.now c.args.cells.now c.args.marks.now c.from.ensures c.widths.ensures c.in_ok-check_reading.ensures).cells_fit.0
 
 pub estimate_second-requires : goal.estimate_second-requires
 estimate_second-requires c =
     let fits = reading c.args.self.now.n c.args.stage c.args.labels.now c.args.cells.now c.args.marks.now c.from.ensures c.widths.ensures c.in_ok-check_reading.ensures in
     let one = one_label c.args.self.now.n c.args.labels.now (omega (arith, fits.many, fits.low, fits.high)) fits.each in
-    (fits.cells_fit, (fits.marks_fit, one.0))
+    (fits.cells_fit.0, one.0)
 
 pub returns-then-stage-eq1 : goal.returns-then-stage-eq1
 returns-then-stage-eq1 c =

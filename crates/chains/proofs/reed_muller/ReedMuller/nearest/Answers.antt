@@ -16,8 +16,8 @@ first_label-label-requires c =
       (
         c.requires.high,
         (
-          label_room r range c.args.stage c.args.labels.now c.args.cells.now c.args.marks.now c.requires c.find-found.result.count c.find-found.result.bits found.count found.bits,
-          bits_short r range c.args.stage c.args.labels.now c.args.cells.now c.args.marks.now c.requires c.find-found.result.count c.find-found.result.bits found.count found.bits,
+          label_room r range c.args.stage c.args.labels.now c.args.reading.now.cells.now c.args.reading.now.marks.now c.requires c.find-found.result.count c.find-found.result.bits found.count found.bits,
+          bits_short r range c.args.stage c.args.labels.now c.args.reading.now.cells.now c.args.reading.now.marks.now c.requires c.find-found.result.count c.find-found.result.bits found.count found.bits,
         ),
       ),
     )
@@ -27,10 +27,10 @@ returns-then-found-stage c =
     let r = c.args.self.now.r in
     let found = c.find-found.ensures in
     let near = subst (λ (d : ℕ). c.find-found.result.harm < d) (distance r c.args.stage c.args.self.now.range.1 c.requires.high) c.if-found-stage.true in
-    nearest_some r c.args.self.now.range c.args.stage c.args.labels.now c.args.cells.now c.args.marks.now c.requires c.find-found.result.count c.find-found.result.bits found.count found.bits c.first_label-label.result c.find-found.result.harm c.first_label-label.ensures found.harm near
+    nearest_some r c.args.self.now.range c.args.stage c.args.labels.now c.args.reading.now.cells.now c.args.reading.now.marks.now c.requires c.find-found.result.count c.find-found.result.bits found.count found.bits c.first_label-label.result c.find-found.result.harm c.first_label-label.ensures found.harm near
 
 pub returns-else-found-stage : goal.returns-else-found-stage
 returns-else-found-stage c =
     let r = c.args.self.now.r in
     let far = subst (λ (d : ℕ). d ≤ c.find-found.result.harm) (distance r c.args.stage c.args.self.now.range.1 c.requires.high) c.if-found-stage.false in
-    nearest_none r c.args.self.now.range c.args.stage c.args.labels.now c.args.cells.now c.args.marks.now c.requires c.find-found.result.harm c.find-found.ensures.harm far
+    nearest_none r c.args.self.now.range c.args.stage c.args.labels.now c.args.reading.now.cells.now c.args.reading.now.marks.now c.requires c.find-found.result.harm c.find-found.ensures.harm far
