@@ -11,6 +11,7 @@ ghost use Rattle.media_laws.proofs.Grids.{grid_lawful};
 
 use crate::checks::{check_cell, check_fetch, check_page, check_put, in_range};
 use crate::medium::Medium;
+use crate::state::State;
 use words::fault::{Fault, Kind, Layer};
 
 /// One byte a cell, page after page: 0, 1, and blank from 2 up.
@@ -21,22 +22,14 @@ pub struct Grid<'a> {
     pub breadth: usize,
 }
 
-fn value(byte: u8) -> u8
-    ensures { result ≡ value_of (state_of byte) }
-{
-    if byte < 2 { byte } else { 0 }
-}
-
-fn mark(byte: u8) -> u8
-    ensures { result ≡ mark_of (state_of byte) }
-{
-    if byte < 2 { 0 } else { 1 }
-}
-
 fn put_to(byte: u8, cell: u8) -> u8
     ensures { result ≡ put_byte byte cell }
 {
-    if byte < 2 { cell } else { byte }
+    if State::from(byte) == State::Blank {
+        byte
+    } else {
+        cell
+    }
 }
 
 fn show(bytes: &[u8], cells: &mut [u8], marks: &mut [u8])
@@ -44,9 +37,11 @@ fn show(bytes: &[u8], cells: &mut [u8], marks: &mut [u8])
     ensures cells { cells.new ≡ map value_of (map state_of bytes.now) }
     ensures marks { marks.new ≡ map mark_of (map state_of bytes.now) }
 {
+    // Both are written in one pass: of what a zip of `iter_mut` writes nothing is proved.
     for (i, byte) in bytes.iter().enumerate() {
-        cells[i] = value(*byte);
-        marks[i] = mark(*byte);
+        let state = State::from(*byte);
+        cells[i] = state.value();
+        marks[i] = state.mark();
     }
 }
 
@@ -54,8 +49,8 @@ fn store(bytes: &mut [u8], cells: &[u8])
     requires { length cells.now ≡ length bytes.old }
     ensures { bytes.new ≡ put_bytes bytes.old cells.now }
 {
-    for (i, cell) in cells.iter().enumerate() {
-        bytes[i] = put_to(bytes[i], *cell);
+    for (i, byte) in bytes.iter_mut().enumerate() {
+        *byte = put_to(*byte, cells[i]);
     }
 }
 

@@ -5,10 +5,12 @@ ghost use Rattle.media_laws.specs.Model.{value_of, mark_of, Unchanged};
 ghost use Rattle.media_laws.specs.Packed.{row_bytes, first_value, first_mark, bit_of, cell_of, cell_at, put_bit, BitSet, BitsPut, BitsWorn};
 ghost use Rattle.media_laws.proofs.Packs.{packed_lawful};
 ghost use Rattle.media.specs.Lent.{packed_of, PackedSound, PackedRefuses};
+ghost use Rattle.media.specs.States.{number};
 ghost use Rattle.media.specs.Promises.{Fetched, Put, Worn};
 
 use crate::checks::{check_cell, check_fetch, check_page, check_put, in_range};
 use crate::medium::Medium;
+use crate::state::State;
 use words::fault::{Fault, Kind, Layer};
 
 /// Two bits a cell, page after page: a row of value bits and then a row of mark bits, each in whole bytes, the first cell most significant.
@@ -50,12 +52,16 @@ fn set_bit(bytes: &mut [u8], at: usize, bit: u8)
     bytes[at / 8] = with_bit(bytes[at / 8], weight(at), bit);
 }
 
-// A cell as it is fetched: under a mark its value is not shown.
-fn shown(value: u8, mark: u8) -> u8
-    requires { value < 2 }
-    ensures { result ≡ value_of (cell_of value mark) }
+// The state of the cell with these bits; under a mark its value is ignored.
+fn state(bytes: &[u8], value: usize, mark: usize) -> State
+    requires { (value < 8 * length bytes.now) × (mark < 8 * length bytes.now) }
+    ensures { number result ≡ cell_of (bit_of bytes.now value) (bit_of bytes.now mark) }
 {
-    if mark == 1 { 0 } else { value }
+    if bit(bytes, mark) == 1 {
+        State::Blank
+    } else {
+        State::from(bit(bytes, value))
+    }
 }
 
 fn show(bytes: &[u8], first_value: usize, first_mark: usize, cells: &mut [u8], marks: &mut [u8])
@@ -65,11 +71,10 @@ fn show(bytes: &[u8], first_value: usize, first_mark: usize, cells: &mut [u8], m
     ensures cells { cells.new ≡ map (λ i. value_of (cell_at bytes.now first_value first_mark i)) (range_with_len 0 (length cells.old)) }
     ensures marks { marks.new ≡ map (λ i. mark_of (cell_at bytes.now first_value first_mark i)) (range_with_len 0 (length cells.old)) }
 {
-    for i in 0..cells.len() {
-        let value = bit(bytes, first_value + i);
-        let mark = bit(bytes, first_mark + i);
-        cells[i] = shown(value, mark);
-        marks[i] = mark;
+    for (i, cell) in cells.iter_mut().enumerate() {
+        let state = state(bytes, first_value + i, first_mark + i);
+        *cell = state.value();
+        marks[i] = state.mark();
     }
 }
 
@@ -94,14 +99,14 @@ fn store(bytes: &mut [u8], first_value: usize, first_mark: usize, cells: &[u8])
     }
 }
 
-fn wear_bits(bytes: &mut [u8], value: usize, mark: usize, state: u8)
-    requires { (value < mark) × ((mark < 8 * length bytes.old) × (state ≤ 2)) }
-    ensures { BitsWorn bytes.old bytes.new value mark state }
+fn wear_bits(bytes: &mut [u8], value: usize, mark: usize, state: State)
+    requires { (value < mark) × (mark < 8 * length bytes.old) }
+    ensures { BitsWorn bytes.old bytes.new value mark (number state) }
 {
-    if state == 2 {
+    if state == State::Blank {
         set_bit(bytes, mark, 1);
     } else {
-        set_bit(bytes, value, state);
+        set_bit(bytes, value, state.value());
         set_bit(bytes, mark, 0);
     }
 }
@@ -212,7 +217,7 @@ impl Medium for Packed<'_> {
         check_cell(cell, self.breadth, state)?;
         let value = first_value(self.breadth, page) + cell;
         let mark = first_mark(self.breadth, page) + cell;
-        wear_bits(self.bytes, value, mark, state);
+        wear_bits(self.bytes, value, mark, State::from(state));
         Ok(())
     }
 }

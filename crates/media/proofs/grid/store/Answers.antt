@@ -10,10 +10,7 @@ pub loop-i-preserved : goal.loop-i-preserved
 loop-i-preserved c =
     let cells = c.args.cells.now in
     let i = c.loop-i.i in
-    let within : i < length c.args.bytes.now = omega arith in
+    let within : i < length cells = omega arith in
     ap (set c.loop-i.bytes i) c.put_to.ensures
     ∙ ap (λ xs. set xs i (put_byte (get_or xs i 0) (get_or cells i 0))) c.loop-i.invariant
-    ∙ put_more c.args.bytes.now cells i within c.loop-i-test.true
-
-pub returns : goal.returns
-returns c = c.loop-i.invariant ∙ ap (put_bytes c.args.bytes.now) (take_all _ _ c.loop-i-test.false)
+    ∙ put_more c.args.bytes.now cells i c.loop-i-test.true within
