@@ -6,7 +6,7 @@ ghost use Rattle.words.specs.Faults.{fault};
 ghost use Rattle.media_laws.specs.Grid.{GridFits, bytes_put, page_bytes, put_byte, put_bytes, state_of};
 ghost use Rattle.media_laws.specs.Model.{value_of, mark_of, Unchanged};
 ghost use Rattle.media.specs.Lent.{grid_of, GridSound, GridRefuses};
-ghost use Rattle.media.specs.Promises.{Fetched, Put, Worn};
+ghost use Rattle.media.specs.Promises.{Called, Fetched, Put, Worn};
 ghost use Rattle.media_laws.proofs.Grids.{grid_lawful};
 
 use crate::checks::{check_cell, check_fetch, check_page, check_put, in_range};
@@ -99,9 +99,7 @@ impl Medium for Grid<'_> {
     }
 
     fn fetch(&mut self, page: usize, cells: &mut [u8], marks: &mut [u8]) -> Result<(), Fault>
-        ensures sound { GridSound self.old → GridSound self.new × Fetched (grid_of self.old) (grid_of self.new) page cells.old marks.old cells.new marks.new result }
-        ensures unsound { (GridSound self.old → ⊥) → (is_err result ≡ true) × Unchanged (grid_of self.old) (grid_of self.new) × (cells.new ≡ cells.old) × (marks.new ≡ marks.old) }
-        ensures refused { (GridSound self.old → ⊥) → MatchResult result (λ _. ⊥) (GridRefuses self.old) }
+        ensures called { Called (GridSound self.old) (GridSound self.new) (GridRefuses self.old) (Fetched (grid_of self.old) (grid_of self.new) page cells.old marks.old cells.new marks.new result) (Unchanged (grid_of self.old) (grid_of self.new) × (cells.new ≡ cells.old) × (marks.new ≡ marks.old)) result }
         ensures lender { self.new.bytes.ghost_name ≡ self.old.bytes.ghost_name }
         ensures bytes { self.new.bytes.now ≡ self.old.bytes.now }
     {
@@ -113,9 +111,7 @@ impl Medium for Grid<'_> {
     }
 
     fn put(&mut self, page: usize, cells: &[u8]) -> Result<(), Fault>
-        ensures sound { GridSound self.old → GridSound self.new × Put (grid_of self.old) (grid_of self.new) page cells.now result }
-        ensures unsound { (GridSound self.old → ⊥) → (is_err result ≡ true) × Unchanged (grid_of self.old) (grid_of self.new) }
-        ensures refused { (GridSound self.old → ⊥) → MatchResult result (λ _. ⊥) (GridRefuses self.old) }
+        ensures called { Called (GridSound self.old) (GridSound self.new) (GridRefuses self.old) (Put (grid_of self.old) (grid_of self.new) page cells.now result) (Unchanged (grid_of self.old) (grid_of self.new)) result }
         ensures lender { self.new.bytes.ghost_name ≡ self.old.bytes.ghost_name }
         ensures bytes { MatchResult result (λ _. self.new.bytes.now ≡ bytes_put self.old.bytes.now self.old.breadth page cells.now) (λ _. self.new.bytes.now ≡ self.old.bytes.now) }
     {
@@ -129,9 +125,7 @@ impl Medium for Grid<'_> {
     }
 
     fn wear(&mut self, page: usize, cell: usize, state: u8) -> Result<(), Fault>
-        ensures sound { GridSound self.old → GridSound self.new × Worn (grid_of self.old) (grid_of self.new) page cell state result }
-        ensures unsound { (GridSound self.old → ⊥) → (is_err result ≡ true) × Unchanged (grid_of self.old) (grid_of self.new) }
-        ensures refused { (GridSound self.old → ⊥) → MatchResult result (λ _. ⊥) (GridRefuses self.old) }
+        ensures called { Called (GridSound self.old) (GridSound self.new) (GridRefuses self.old) (Worn (grid_of self.old) (grid_of self.new) page cell state result) (Unchanged (grid_of self.old) (grid_of self.new)) result }
         ensures lender { self.new.bytes.ghost_name ≡ self.old.bytes.ghost_name }
         ensures bytes { MatchResult result (λ _. self.new.bytes.now ≡ slice_set self.old.bytes.now (page * self.old.breadth + cell) state) (λ _. self.new.bytes.now ≡ self.old.bytes.now) }
     {

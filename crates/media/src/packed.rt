@@ -6,7 +6,7 @@ ghost use Rattle.media_laws.specs.Packed.{row_bytes, first_value, first_mark, bi
 ghost use Rattle.media_laws.proofs.Packs.{packed_lawful};
 ghost use Rattle.media.specs.Lent.{packed_of, PackedSound, PackedRefuses};
 ghost use Rattle.media.specs.States.{number};
-ghost use Rattle.media.specs.Promises.{Fetched, Put, Worn};
+ghost use Rattle.media.specs.Promises.{Called, Fetched, Put, Worn};
 
 use crate::checks::{check_cell, check_fetch, check_page, check_put, in_range};
 use crate::medium::Medium;
@@ -176,9 +176,7 @@ impl Medium for Packed<'_> {
     }
 
     fn fetch(&mut self, page: usize, cells: &mut [u8], marks: &mut [u8]) -> Result<(), Fault>
-        ensures sound { PackedSound self.old → PackedSound self.new × Fetched (packed_of self.old) (packed_of self.new) page cells.old marks.old cells.new marks.new result }
-        ensures unsound { (PackedSound self.old → ⊥) → (is_err result ≡ true) × Unchanged (packed_of self.old) (packed_of self.new) × (cells.new ≡ cells.old) × (marks.new ≡ marks.old) }
-        ensures refused { (PackedSound self.old → ⊥) → MatchResult result (λ _. ⊥) (PackedRefuses self.old) }
+        ensures called { Called (PackedSound self.old) (PackedSound self.new) (PackedRefuses self.old) (Fetched (packed_of self.old) (packed_of self.new) page cells.old marks.old cells.new marks.new result) (Unchanged (packed_of self.old) (packed_of self.new) × (cells.new ≡ cells.old) × (marks.new ≡ marks.old)) result }
         ensures lender { self.new.bytes.ghost_name ≡ self.old.bytes.ghost_name }
         ensures bytes { self.new.bytes.now ≡ self.old.bytes.now }
     {
@@ -190,9 +188,7 @@ impl Medium for Packed<'_> {
     }
 
     fn put(&mut self, page: usize, cells: &[u8]) -> Result<(), Fault>
-        ensures sound { PackedSound self.old → PackedSound self.new × Put (packed_of self.old) (packed_of self.new) page cells.now result }
-        ensures unsound { (PackedSound self.old → ⊥) → (is_err result ≡ true) × Unchanged (packed_of self.old) (packed_of self.new) }
-        ensures refused { (PackedSound self.old → ⊥) → MatchResult result (λ _. ⊥) (PackedRefuses self.old) }
+        ensures called { Called (PackedSound self.old) (PackedSound self.new) (PackedRefuses self.old) (Put (packed_of self.old) (packed_of self.new) page cells.now result) (Unchanged (packed_of self.old) (packed_of self.new)) result }
         ensures lender { self.new.bytes.ghost_name ≡ self.old.bytes.ghost_name }
         ensures bytes { MatchResult result (λ _. BitsPut self.old.bytes.now self.new.bytes.now (first_value self.old.breadth page) (first_mark self.old.breadth page) cells.now self.old.breadth) (λ _. self.new.bytes.now ≡ self.old.bytes.now) }
     {
@@ -206,9 +202,7 @@ impl Medium for Packed<'_> {
     }
 
     fn wear(&mut self, page: usize, cell: usize, state: u8) -> Result<(), Fault>
-        ensures sound { PackedSound self.old → PackedSound self.new × Worn (packed_of self.old) (packed_of self.new) page cell state result }
-        ensures unsound { (PackedSound self.old → ⊥) → (is_err result ≡ true) × Unchanged (packed_of self.old) (packed_of self.new) }
-        ensures refused { (PackedSound self.old → ⊥) → MatchResult result (λ _. ⊥) (PackedRefuses self.old) }
+        ensures called { Called (PackedSound self.old) (PackedSound self.new) (PackedRefuses self.old) (Worn (packed_of self.old) (packed_of self.new) page cell state result) (Unchanged (packed_of self.old) (packed_of self.new)) result }
         ensures lender { self.new.bytes.ghost_name ≡ self.old.bytes.ghost_name }
         ensures bytes { MatchResult result (λ _. BitsWorn self.old.bytes.now self.new.bytes.now (first_value self.old.breadth page + cell) (first_mark self.old.breadth page + cell) state) (λ _. self.new.bytes.now ≡ self.old.bytes.now) }
     {

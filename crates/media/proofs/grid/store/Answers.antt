@@ -1,5 +1,5 @@
-use Rattle.std.proofs.Common.{◌<◌, length, get_or, set, ap, ◌∙◌, arith, take_all}
-use Rattle.media_laws.specs.Grid.{put_byte, put_bytes}
+use Rattle.std.proofs.Common.{◌<◌, length, get_or, set, ap, ◌∙◌, arith}
+use Rattle.media_laws.specs.Grid.{put_byte}
 use Rattle.media_laws.proofs.Fills.{put_none, put_more}
 use Rattle.media.proofs.grid.store.Goals as goal
 

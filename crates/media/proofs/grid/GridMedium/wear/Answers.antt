@@ -28,9 +28,11 @@ returns c =
     let page = page_passed p self.pages _ page-ok in
     let cell = cell_passed c.args.cell self.breadth c.args.state _ cell-ok in
     record {
-      sound = λ _. ((fits.0, fits.1, length-set bytes (p * self.breadth + c.args.cell) c.args.state ∙ fits.2), worked _ _ _ (none_of_both (page_refusal model p) (cell_refusal model c.args.cell c.args.state) page-ok cell-ok) (refl, grid_wear bytes self.pages self.breadth fits p page c.args.cell c.args.state cell.0 cell.1));
-      unsound = λ no. absurd (no fits);
-      refused = λ no. absurd (no fits);
+      called = record {
+        sound = λ _. ((fits.0, fits.1, length-set bytes (p * self.breadth + c.args.cell) c.args.state ∙ fits.2), worked _ _ _ (none_of_both (page_refusal model p) (cell_refusal model c.args.cell c.args.state) page-ok cell-ok) (refl, grid_wear bytes self.pages self.breadth fits p page c.args.cell c.args.state cell.0 cell.1));
+        unsound = λ no. absurd (no fits);
+        refused = λ no. absurd (no fits);
+      };
       lender = refl;
       bytes = refl;
     }

@@ -23,9 +23,11 @@ returns c =
     let page-ok = checked_ok _ c.in_ok-check_page.ensures in
     let fetch-ok = checked_ok _ c.in_ok-check_fetch.ensures in
     record {
-      sound = λ _. (fits, (record { pages = refl; breadth = refl; states = λ q l. refl }, worked _ _ _ (none_of_both (page_refusal model c.args.page) (refusal Medium (written_to self.breadth c.args.cells.now ∷ written_to self.breadth c.args.marks.now ∷ [])) page-ok fetch-ok) (refl, c.show_page.ensures.cells, c.show_page.ensures.marks)));
-      unsound = λ no. absurd (no fits);
-      refused = λ no. absurd (no fits);
+      called = record {
+        sound = λ _. (fits, (record { pages = refl; breadth = refl; states = λ q l. refl }, worked _ _ _ (none_of_both (page_refusal model c.args.page) (refusal Medium (written_to self.breadth c.args.cells.now ∷ written_to self.breadth c.args.marks.now ∷ [])) page-ok fetch-ok) (refl, c.show_page.ensures.cells, c.show_page.ensures.marks)));
+        unsound = λ no. absurd (no fits);
+        refused = λ no. absurd (no fits);
+      };
       lender = refl;
       bytes = refl;
     }
