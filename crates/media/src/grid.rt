@@ -45,6 +45,7 @@ fn show(bytes: &[u8], cells: &mut [u8], marks: &mut [u8])
     }
 }
 
+#[tactic(auto, using(media_laws::proofs::Fills::put_none, media_laws::proofs::Fills::put_more))]
 fn store(bytes: &mut [u8], cells: &[u8])
     requires { length cells.now ≡ length bytes.old }
     ensures { bytes.new ≡ put_bytes bytes.old cells.now }

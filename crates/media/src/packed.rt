@@ -88,6 +88,7 @@ fn put_cell(bytes: &mut [u8], value: usize, mark: usize, cell: u8)
     }
 }
 
+#[tactic(auto, using(media_laws::proofs::Packs::put_more, media_laws::proofs::Packs::put_none))]
 fn store(bytes: &mut [u8], first_value: usize, first_mark: usize, cells: &[u8])
     requires apart { first_value + length cells.now ≤ first_mark }
     requires within { (first_mark + length cells.now ≤ 8 * length bytes.old) × (length bytes.old < 2 ^ 60) }

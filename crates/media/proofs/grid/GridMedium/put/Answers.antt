@@ -1,4 +1,4 @@
-use Rattle.std.proofs.Common.{◌≡◌, ℕ, ◌+◌, ◌-◌, ◌*◌, List, [], ◌∷◌, length, take, drop, Ok, sym, refl, ap, ◌∙◌, subst, ap₂, arith, rules}
+use Rattle.std.proofs.Common.{◌≡◌, ℕ, ◌+◌, ◌-◌, ◌*◌, List, [], ◌∷◌, length, take, drop, Ok, sym, refl, ap, ◌∙◌, subst, ap₂, arith}
 use borrow.Rule.Slice.PartMut.{put_mid}
 use Rattle.words.specs.declared.fault.Layer.TheVariants.{Medium}
 use Rattle.words.specs.Buffers.{refusal, values_below}
@@ -7,17 +7,9 @@ use Rattle.words.proofs.Rises.{checked_ok}
 use Rattle.media_laws.specs.Grid.{grid, GridFits, page_bytes, put_bytes}
 use Rattle.media.specs.Promises.{Put, page_refusal}
 use Rattle.media_laws.proofs.Grids.{grid_put, length_put}
-use Rattle.media_laws.proofs.Pages.{page_within, length_page, length_over}
+use Rattle.media_laws.proofs.Pages.{length_page, length_over}
 use Rattle.media.proofs.Working.{worked, none_of_both, page_passed}
 use Rattle.media.proofs.grid.GridMedium.put.Goals as goal
-
-pub slice_bounds-store-end : goal.slice_bounds-store-end
-slice_bounds-store-end c =
-    let self = c.args.self.now in
-    let fits = c.in_ok-check.ensures.sound in
-    let page = page_passed c.args.page self.pages _ (checked_ok _ c.in_ok-check_page.ensures) in
-    let within = page_within self.bytes.now self.breadth self.pages fits.2 c.args.page page in
-    search rules
 
 pub returns : goal.returns
 returns c =

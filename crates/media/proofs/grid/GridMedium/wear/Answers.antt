@@ -1,20 +1,11 @@
-use Rattle.std.proofs.Common.{◌+◌, ◌*◌, refl, ◌∙◌, arith}
+use Rattle.std.proofs.Common.{◌+◌, ◌*◌, refl, ◌∙◌}
 use Rattle.std.proofs.lemmas.List.{length-set}
 use Rattle.words.proofs.Rises.{checked_ok}
 use Rattle.media_laws.specs.Grid.{grid}
 use Rattle.media.specs.Promises.{page_refusal, cell_refusal}
 use Rattle.media_laws.proofs.Grids.{grid_wear}
-use Rattle.media_laws.proofs.Pages.{page_within}
 use Rattle.media.proofs.Working.{worked, none_of_both, page_passed, cell_passed}
 use Rattle.media.proofs.grid.GridMedium.wear.Goals as goal
-
-pub bounds-self-page : goal.bounds-self-page
-bounds-self-page c =
-    let self = c.args.self.now in
-    let fits = c.in_ok-check.ensures.sound in
-    let page = page_passed c.args.page self.pages _ (checked_ok _ c.in_ok-check_page.ensures) in
-    let cell = cell_passed c.args.cell self.breadth c.args.state _ (checked_ok _ c.in_ok-check_cell.ensures) in
-    omega (arith, page_within self.bytes.now self.breadth self.pages fits.2 c.args.page page, cell.0)
 
 pub returns : goal.returns
 returns c =

@@ -1,23 +1,9 @@
-use Rattle.std.proofs.Common.{◌≡◌, ℕ, map, length, sym, ap, ◌∙◌, arith}
+use Rattle.std.proofs.Common.{◌≡◌, ℕ, map, length, ap, ◌∙◌}
 use Rattle.std.specs.List.{range_with_len}
 use Rattle.media_laws.specs.Model.{value_of, mark_of}
 use Rattle.media_laws.specs.Packed.{first_value, first_mark, cell_at}
 use Rattle.media_laws.proofs.Fills.{map_map}
-use Rattle.media_laws.proofs.Packs.{marks_behind, marks_within, few_bytes}
 use Rattle.media.proofs.packed.Packed.show_page.Goals as goal
-
-pub show-requires : goal.show-requires
-show-requires c =
-    let self = c.args.self.now in
-    let n = self.breadth in
-    let p = c.args.page in
-    let behind = marks_behind n p in
-    let within = marks_within self.bytes.now self.pages n c.requires.0 p c.requires.1.0 in
-    record {
-      values = omega (arith, c.first_value-value.ensures, c.requires.1.1.0);
-      marks = omega (arith, c.first_mark-mark.ensures, c.requires.1.1.0);
-      lengths = (c.requires.1.1.1 ∙ sym c.requires.1.1.0, few_bytes self.bytes.now self.pages n c.requires.0);
-    }
 
 pub returns : goal.returns
 returns c =

@@ -1,23 +1,11 @@
-use Rattle.std.proofs.Common.{ℕ, ◌+◌, refl, ◌∙◌, subst, subst₂, arith}
+use Rattle.std.proofs.Common.{ℕ, ◌+◌, refl, ◌∙◌, subst, subst₂}
 use Rattle.words.proofs.Rises.{checked_ok}
 use Rattle.media_laws.specs.Packed.{packed, first_value, first_mark, BitsWorn}
 use Rattle.media.specs.Promises.{page_refusal, cell_refusal}
 use Rattle.media.specs.States.{number}
-use Rattle.media_laws.proofs.Packs.{marks_behind, marks_within, packed_wear}
-use Rattle.media.proofs.Working.{worked, none_of_both, page_passed, cell_passed, state_kept}
+use Rattle.media_laws.proofs.Packs.{packed_wear}
+use Rattle.media.proofs.Working.{worked, none_of_both, cell_passed, state_kept}
 use Rattle.media.proofs.packed.PackedMedium.wear.Goals as goal
-
-pub wear_bits-requires : goal.wear_bits-requires
-wear_bits-requires c =
-    let self = c.args.self.now in
-    let n = self.breadth in
-    let p = c.args.page in
-    let fits = c.in_ok-check.ensures.sound in
-    let page = page_passed p self.pages _ (checked_ok _ c.in_ok-check_page.ensures) in
-    let cell = cell_passed c.args.cell n c.args.state _ (checked_ok _ c.in_ok-check_cell.ensures) in
-    let behind = marks_behind n p in
-    let within = marks_within self.bytes.now self.pages n fits p page in
-    (omega (arith, c.first_value.ensures, c.first_mark.ensures), omega (arith, c.first_mark.ensures))
 
 pub returns : goal.returns
 returns c =
