@@ -1,5 +1,9 @@
 -- One step of a scan for the first refusal. Assumes nothing.
-use Rattle.std.proofs.Common.{◌≡◌, ℕ, suc, ◌+◌, ◌<◌, ◌≤◌, cond, List, map, length, get_or, drop, Some, None, Option, sym, ap, ◌∙◌, add-one, le-ltb, lt-ltb}
+use Rattle.std.proofs.Common.{◌≡◌, ℕ, suc, ◌+◌, ◌<◌, ◌≤◌, cond, true, false, List, [], ◌∷◌, map, length, get_or, drop, Some, None, Option, refl, sym, ap, ◌∙◌, add-one, le-ltb, lt-ltb, leb}
+use mathlib.Core.Logic.{◌⊎◌, inl, inr}
+use Rattle.std.specs.List.{position_from}
+use Rattle.std.specs.Option.{option_map}
+use Rattle.std.proofs.lemmas.Bool.Decides.{leb_tells}
 use Rattle.std.proofs.lemmas.List.{at_drop_more, at_drop_all}
 use Rattle.words.specs.declared.fault.Fault.{Fault}
 use Rattle.words.specs.declared.fault.Kind.TheVariants.{TooLarge}
@@ -7,20 +11,22 @@ use Rattle.words.specs.declared.fault.Layer.{Layer}
 use Rattle.words.specs.Buffers.{Given, first_large, first_of, either}
 use Rattle.words.specs.Faults.{fault}
 
-module _ (layer : Layer) (bound : ℕ) (xs : List ℕ) (i : ℕ) where
-  pub large_more : i < length xs → get_or xs i 0 < bound → first_large layer bound i (drop i xs) ≡ first_large layer bound (i + 1) (drop (i + 1) xs)
-  large_more h small =
-      at_drop_more (first_large layer bound i) xs i 0 h
-      ∙ ap (λ t. cond t (first_large layer bound (suc i) (drop (i + 1) xs)) (Some (fault TooLarge layer i))) (lt-ltb _ _ small)
-      ∙ ap (λ k. first_large layer bound k (drop (i + 1) xs)) (sym (add-one i))
-
-  pub large_found : i < length xs → bound ≤ get_or xs i 0 → first_large layer bound i (drop i xs) ≡ Some (fault TooLarge layer i)
-  large_found h large =
-      at_drop_more (first_large layer bound i) xs i 0 h
-      ∙ ap (λ t. cond t (first_large layer bound (suc i) (drop (i + 1) xs)) (Some (fault TooLarge layer i))) (le-ltb _ _ large)
-
-  pub large_none : length xs ≤ i → first_large layer bound i (drop i xs) ≡ None
-  large_none h = at_drop_all (first_large layer bound i) xs i h
+-- the first value that is too large, by its position
+pub large_at : (layer : Layer) (bound i : ℕ) (xs : List ℕ) → first_large layer bound i xs ≡ option_map (fault TooLarge layer) (position_from (λ x. leb bound x) i xs)
+large_at layer bound i [] = refl
+large_at layer bound i (x ∷ xs) =
+    let rest : first_large layer bound (suc i) xs ≡ option_map (fault TooLarge layer) (position_from (λ x. leb bound x) (i + 1) xs) =
+    ap (λ k. first_large layer bound k xs) (sym (add-one i)) ∙ large_at layer bound (i + 1) xs in
+    by_size (leb_tells bound x) rest
+  where
+    by_size : ((leb bound x ≡ true) × (bound ≤ x)) ⊎ ((leb bound x ≡ false) × (x < bound)) → first_large layer bound (suc i) xs ≡ option_map (fault TooLarge layer) (position_from (λ x. leb bound x) (i + 1) xs) → first_large layer bound i (x ∷ xs) ≡ option_map (fault TooLarge layer) (position_from (λ x. leb bound x) i (x ∷ xs))
+    by_size (inl large) rest =
+        ap (λ t. cond t (first_large layer bound (suc i) xs) (Some (fault TooLarge layer i))) (le-ltb _ _ large.1)
+        ∙ sym (ap (λ t. option_map (fault TooLarge layer) (cond t (Some i) (position_from (λ x. leb bound x) (i + 1) xs))) large.0)
+    by_size (inr small) rest =
+        ap (λ t. cond t (first_large layer bound (suc i) xs) (Some (fault TooLarge layer i))) (lt-ltb _ _ small.1)
+        ∙ rest
+        ∙ sym (ap (λ t. option_map (fault TooLarge layer) (cond t (Some i) (position_from (λ x. leb bound x) (i + 1) xs))) small.0)
 
 module _ {X : Type 0} (f : Given → Option Fault) (g : X → Given) (xs : List X) (i : ℕ) (d : X) where
   step : i < length xs → (z : Option Fault) → f (g (get_or xs i d)) ≡ z → first_of f (map g (drop i xs)) ≡ either z (first_of f (map g (drop (i + 1) xs)))

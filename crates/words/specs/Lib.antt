@@ -1,3 +1,4 @@
+pub mod Bits
 pub mod Buffers
 pub mod Distance
 pub mod Faults

@@ -1,5 +1,5 @@
 // The checks that every call makes of its buffers.
-ghost use Rattle.std.specs.Prelude.{◌≡◌, map};
+ghost use Rattle.std.specs.Prelude.{◌≡◌, map, nat_le, position};
 ghost use Rattle.words.specs.Buffers.{checked, given, wrong_length, too_large, first_of, refusal};
 
 use crate::fault::{Fault, Kind, Layer};
@@ -38,16 +38,21 @@ impl Buffer<'_> {
         }
     }
 
+    fn first_large(&self) -> Option<usize>
+        ensures { result ≡ position (λ x. nat_le self.now.below x) self.now.content.now }
+    {
+        self.content
+            .iter()
+            .position(|value| usize::from(*value) >= self.below)
+    }
+
     fn check_values(&self, layer: Layer) -> Result<(), Fault>
         ensures { result ≡ checked (too_large layer (given self.now)) }
     {
-        let content = self.content;
-        for (i, value) in content.iter().enumerate() {
-            if usize::from(*value) >= self.below {
-                return Err(Fault::new(Kind::TooLarge, layer, i));
-            }
+        match self.first_large() {
+            None => Ok(()),
+            Some(i) => Err(Fault::new(Kind::TooLarge, layer, i)),
         }
-        Ok(())
     }
 }
 

@@ -5,27 +5,27 @@ ghost use Rattle.words.specs.Texts.{kind_text, layer_text};
 
 use std::fmt;
 
-/// Why a call refuses. Each variant has one number, which the specification lists.
+/// Why a call refuses, each reason with its number.
 #[derive(Clone, Copy, PartialEq, Eq, Debug)]
 pub enum Kind {
-    RecipeEnds,
-    UnknownChain,
-    BytesLeftOver,
-    Columns,
-    StageKind,
-    StageSize,
-    WrongLength,
-    TooLarge,
-    NoCodeword,
-    UnlawfulField,
-    OutsideKind,
-    UnfitStages,
-    StageOutOfRange,
-    PageOutOfRange,
-    CellOutOfRange,
-    UnfitMemory,
-    SpareBitSet,
-    UnfitMedium,
+    RecipeEnds = 1,
+    UnknownChain = 2,
+    BytesLeftOver = 3,
+    Columns = 4,
+    StageKind = 5,
+    StageSize = 6,
+    WrongLength = 10,
+    TooLarge = 11,
+    NoCodeword = 12,
+    UnlawfulField = 13,
+    OutsideKind = 14,
+    UnfitStages = 15,
+    StageOutOfRange = 16,
+    PageOutOfRange = 17,
+    CellOutOfRange = 18,
+    UnfitMemory = 19,
+    SpareBitSet = 20,
+    UnfitMedium = 21,
 }
 
 /// The part of the library in which a refusal arose.
@@ -54,26 +54,7 @@ impl Kind {
     pub fn number(self) -> u8
         ensures { result ≡ number_of self }
     {
-        match self {
-            Kind::RecipeEnds => 1,
-            Kind::UnknownChain => 2,
-            Kind::BytesLeftOver => 3,
-            Kind::Columns => 4,
-            Kind::StageKind => 5,
-            Kind::StageSize => 6,
-            Kind::WrongLength => 10,
-            Kind::TooLarge => 11,
-            Kind::NoCodeword => 12,
-            Kind::UnlawfulField => 13,
-            Kind::OutsideKind => 14,
-            Kind::UnfitStages => 15,
-            Kind::StageOutOfRange => 16,
-            Kind::PageOutOfRange => 17,
-            Kind::CellOutOfRange => 18,
-            Kind::UnfitMemory => 19,
-            Kind::SpareBitSet => 20,
-            Kind::UnfitMedium => 21,
-        }
+        self as u8
     }
 
     /// The refusal in words.
@@ -120,6 +101,22 @@ impl Layer {
     }
 }
 
+impl fmt::Display for Kind {
+    ghost output = { λ kind. Some (kind_text kind) };
+
+    fn fmt<W: fmt::Write>(&self, f: &mut fmt::Formatter<W>) -> fmt::Result {
+        f.write_str(self.text())
+    }
+}
+
+impl fmt::Display for Layer {
+    ghost output = { λ layer. Some (layer_text layer) };
+
+    fn fmt<W: fmt::Write>(&self, f: &mut fmt::Formatter<W>) -> fmt::Result {
+        f.write_str(self.text())
+    }
+}
+
 impl Fault {
     /// A refusal that has met no memory yet.
     pub fn new(kind: Kind, layer: Layer, place: usize) -> Self
@@ -138,10 +135,8 @@ impl Fault {
         ensures { result ≡ on_page self page }
     {
         Fault {
-            kind: self.kind,
-            layer: self.layer,
-            place: self.place,
             page: Some(page),
+            ..self
         }
     }
 
@@ -155,15 +150,18 @@ impl Fault {
 
 impl fmt::Display for Fault {
     fn fmt<W: fmt::Write>(&self, f: &mut fmt::Formatter<W>) -> fmt::Result {
+        let Fault {
+            kind,
+            layer,
+            place,
+            page,
+        } = self;
         let number = self.number();
-        let layer = self.layer.text();
-        let place = self.place;
-        let text = self.kind.text();
-        match self.page {
-            None => write!(f, "refused {number} ({layer}, place {place}): {text}"),
+        match page {
+            None => write!(f, "refused {number} ({layer}, place {place}): {kind}"),
             Some(page) => write!(
                 f,
-                "refused {number} ({layer}, place {place}, page {page}): {text}"
+                "refused {number} ({layer}, place {place}, page {page}): {kind}"
             ),
         }
     }

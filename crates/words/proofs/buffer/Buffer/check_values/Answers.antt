@@ -1,17 +1,21 @@
-use Rattle.std.proofs.Common.{◌<◌, ◌≤◌, get_or, Err, sym, ap, ◌∙◌, arith}
+use Rattle.std.proofs.Common.{◌≡◌, Some, None, Err, leb, sym, ap, ◌∙◌}
+use Rattle.std.specs.List.{position_from}
+use Rattle.std.specs.Option.{option_map}
+use Rattle.std.proofs.lemmas.Iterator.Adapters.{position_from-zero}
+use Rattle.words.specs.declared.fault.Kind.TheVariants.{TooLarge}
 use Rattle.words.specs.Buffers.{checked}
-use Rattle.words.proofs.Scans.{large_more, large_found, large_none}
+use Rattle.words.specs.Faults.{fault}
+use Rattle.words.proofs.Scans.{large_at}
 use Rattle.words.proofs.buffer.Buffer.check_values.Goals as goal
 
-pub returns-then-from-self : goal.returns-then-from-self
-returns-then-from-self c =
-    let large : c.args.self.now.below ≤ get_or c.args.self.now.content.now c.loop-i.i 0 = omega arith in
-    ap Err c.new.ensures ∙ ap checked (sym (large_found _ _ _ _ c.loop-i-test.true large) ∙ c.loop-i.invariant)
+pub returns-in-None : goal.returns-in-None
+returns-in-None c =
+    let buffer = c.args.self.now in
+    let found : position_from (λ x. leb buffer.below x) 0 buffer.content.now ≡ None = sym (position_from-zero (λ x. leb buffer.below x) buffer.content.now) ∙ sym c.first_large.ensures ∙ c.in-None.is in
+    ap checked (sym (large_at c.args.layer buffer.below 0 buffer.content.now ∙ ap (option_map (fault TooLarge c.args.layer)) found))
 
-pub loop-i-preserved : goal.loop-i-preserved
-loop-i-preserved c =
-    let small : get_or c.args.self.now.content.now c.loop-i.i 0 < c.args.self.now.below = omega arith in
-    sym (large_more _ _ _ _ c.loop-i-test.true small) ∙ c.loop-i.invariant
-
-pub returns : goal.returns
-returns c = ap checked (sym (large_none _ _ _ _ c.loop-i-test.false) ∙ c.loop-i.invariant)
+pub returns-in-Some : goal.returns-in-Some
+returns-in-Some c =
+    let buffer = c.args.self.now in
+    let found : position_from (λ x. leb buffer.below x) 0 buffer.content.now ≡ Some c.in-Some.i = sym (position_from-zero (λ x. leb buffer.below x) buffer.content.now) ∙ sym c.first_large.ensures ∙ c.in-Some.is in
+    ap Err c.new.ensures ∙ ap checked (sym (large_at c.args.layer buffer.below 0 buffer.content.now ∙ ap (option_map (fault TooLarge c.args.layer)) found))

@@ -1,0 +1,33 @@
+// Numbers as rows of bits, the first bit most significant.
+ghost use Rattle.std.specs.Prelude.{◌≡◌, ◌/◌, ◌%◌, ◌^◌, length};
+ghost use Rattle.words.specs.Bits.{bits_of, spelled};
+
+/// The number that a row of bits spells. Only its lowest 16 bits are kept.
+pub fn spell(bits: &[u8]) -> u16
+    ensures { result ≡ spelled bits.now % 2 ^ 16 }
+{
+    bits.iter().fold(0, |number: u16, bit| {
+        number.wrapping_mul(2).wrapping_add(u16::from(*bit))
+    })
+}
+
+// The bit of a number that counts 2 to the power of `weight`.
+fn bit_at(number: u16, weight: usize) -> u8
+    ensures { result ≡ number / 2 ^ weight % 2 }
+{
+    if weight < 16 {
+        (number >> weight & 1) as u8
+    } else {
+        0
+    }
+}
+
+/// Writes the lowest bits of a number, as many as there is room for.
+pub fn write_bits(number: u16, bits: &mut [u8])
+    ensures { bits.new ≡ bits_of (length bits.old) number }
+{
+    let count = bits.len();
+    for (i, bit) in bits.iter_mut().enumerate() {
+        *bit = bit_at(number, count - 1 - i);
+    }
+}
