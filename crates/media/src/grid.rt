@@ -1,4 +1,5 @@
 // The grid: one byte a cell.
+// The grid and packed cells are no twins: what they have in common is in `checks` and `state`, and the rest says how each lays out its cells.
 ghost use Rattle.std.specs.Prelude.{◌≡◌, ◌+◌, ◌*◌, ◌<◌, true, map, length, is_err, IfErr, MatchResult, slice_set};
 ghost use Rattle.words.specs.declared.fault.Kind.TheVariants.{UnfitMedium};
 ghost use Rattle.words.specs.declared.fault.Layer.TheVariants.{Medium as the_medium};
@@ -99,6 +100,7 @@ impl Medium for Grid<'_> {
         self.breadth
     }
 
+    // A clause that an impl adds to a method is written beside the trait's own, which stand here again for the sake of `bytes`.
     fn fetch(&mut self, page: usize, cells: &mut [u8], marks: &mut [u8]) -> Result<(), Fault>
         ensures called { Called (GridSound self.old) (GridSound self.new) (GridRefuses self.old) (Fetched (grid_of self.old) (grid_of self.new) page cells.old marks.old cells.new marks.new result) (Unchanged (grid_of self.old) (grid_of self.new) × (cells.new ≡ cells.old) × (marks.new ≡ marks.old)) result }
         ensures lender { self.new.bytes.ghost_name ≡ self.old.bytes.ghost_name }

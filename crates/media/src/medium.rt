@@ -20,9 +20,6 @@ pub trait Medium {
     // the name of what the medium is lent, which every call gives back
     ghost lender: { Self → ℕ };
 
-    // what an implementation shows
-    ghost lawful: { (m : Self) → sound m → LawfulMedium (model m) };
-
     /// Refuses a medium that is not sound.
     fn check(&self) -> Result<(), Fault>
         ensures sound { MatchResult result (λ _. sound self.now) (λ _. sound self.now → ⊥) }
@@ -50,4 +47,6 @@ pub trait Medium {
     fn wear(&mut self, page: usize, cell: usize, state: u8) -> Result<(), Fault>
         ensures called { Called (sound self.old) (sound self.new) (refuses self.old) (Worn (model self.old) (model self.new) page cell state result) (Unchanged (model self.old) (model self.new)) result }
         ensures lender { lender self.new ≡ lender self.old };
+
+    ghost lawful: { (m : Self) → sound m → LawfulMedium (model m) };
 }
