@@ -83,10 +83,8 @@ fresh n = (length-replicate n 0, all_fresh n)
     all_fresh (suc k) = (omega arith, all_fresh k)
 
 -- the front of a row of 4,096 zeros
-pub cleared : (n k : ℕ) → k ≡ n → n ≤ 4096 → take {A = ℕ} (k - 0) (replicate 4096 0) ≡ replicate n 0
-cleared n k e few =
-    let same : k - 0 ≡ n = omega arith in
-    ap (λ x. take {A = ℕ} x (replicate 4096 0)) same ∙ take-replicate n 4096 0 few
+pub cleared : (n k : ℕ) → k ≡ n → n ≤ 4096 → take {A = ℕ} k (replicate 4096 0) ≡ replicate n 0
+cleared n k e few = ap (λ x. take {A = ℕ} x (replicate 4096 0)) e ∙ take-replicate n 4096 0 few
 
 -- the whole of a write: the code encodes, the medium puts and then fetches
 module _ (m m' m'' : MediumModel) (c : CodeModel) (lc : Lawful c) (j : Joins m c) (p : ℕ) (payload : List ℕ) (passed : payload_refusal m c p payload ≡ None) where
