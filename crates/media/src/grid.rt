@@ -1,6 +1,6 @@
 // The grid: one byte a cell.
 // The grid and packed cells are no twins: what they have in common is in `checks` and `state`, and the rest says how each lays out its cells.
-ghost use Rattle.std.specs.Prelude.{◌≡◌, ◌+◌, ◌*◌, ◌<◌, true, map, length, is_err, IfErr, MatchResult, slice_set};
+ghost use Rattle.std.specs.Prelude.{◌≡◌, ◌+◌, ◌*◌, ◌<◌, map, length, IfErr, MatchResult, slice_set};
 ghost use Rattle.words.specs.declared.fault.Kind.TheVariants.{UnfitMedium};
 ghost use Rattle.words.specs.declared.fault.Layer.TheVariants.{Medium as the_medium};
 ghost use Rattle.words.specs.Faults.{fault};

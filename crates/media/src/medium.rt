@@ -1,5 +1,5 @@
 // What every medium offers.
-ghost use Rattle.std.specs.Prelude.{◌≡◌, ℕ, true, is_err, IfErr, MatchResult};
+ghost use Rattle.std.specs.Prelude.{◌≡◌, ℕ, IfErr, MatchResult};
 ghost use Rattle.words.specs.declared.fault.Fault.{Fault};
 ghost use Rattle.media_laws.specs.Model.{MediumModel, LawfulMedium, Unchanged};
 ghost use Rattle.media.specs.Promises.{Called, Fetched, Put, Worn};

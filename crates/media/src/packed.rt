@@ -1,5 +1,5 @@
 // Packed cells: two bits a cell, its value and its mark.
-ghost use Rattle.std.specs.Prelude.{◌≡◌, ◌+◌, ◌-◌, ◌*◌, ◌/◌, ◌%◌, ◌^◌, ◌<◌, ◌≤◌, true, map, length, is_err, if◌then◌else◌, MatchResult, bit_and, bit_or, nat_eq};
+ghost use Rattle.std.specs.Prelude.{◌≡◌, ◌+◌, ◌-◌, ◌*◌, ◌/◌, ◌%◌, ◌^◌, ◌<◌, ◌≤◌, map, length, if◌then◌else◌, MatchResult, bit_and, bit_or, nat_eq};
 ghost use Rattle.std.specs.List.{range_with_len, AllByRecursion};
 ghost use Rattle.media_laws.specs.Model.{value_of, mark_of, Unchanged};
 ghost use Rattle.media_laws.specs.Packed.{row_bytes, first_value, first_mark, bit_of, cell_of, cell_at, put_bit, BitSet, BitsPut, BitsWorn};

@@ -2,7 +2,7 @@
 ghost use Rattle.memory_laws.specs.Calls.{Written, paged};
 ghost use Rattle.memories.specs.Promises.{Done, Joined, Kept};
 
-use crate::bits::{count_marks, spell};
+use crate::bits::{count_marks, spread};
 use crate::checks::check_call;
 use crate::memory::Memory;
 use codes::code::Code;
@@ -26,7 +26,7 @@ impl<M: Medium, C: Code> Memory<'_, M, C> {
         let message = &mut message[..bits];
         let word = &mut word[..cells];
         let marks = &mut marks[..cells];
-        spell(payload, message);
+        spread(payload, message);
         self.code.encode(message, word)?;
         self.medium.put(page, word)?;
         self.medium.fetch(page, word, marks)?;

@@ -33,7 +33,7 @@ encoded g c =
     let room = ap length (cleared cm.message_len c.message_len-bits.result bits few_bits) ∙ length-replicate {A = ℕ} cm.message_len 0 in
     let zeros = cleared cm.len c.len-cells.result (c.len-cells.ensures c.requires.code) lc.short in
     let word = take c.len-cells.result (replicate 4096 0) in
-    let told = subst (λ (xs : List ℕ). Encoded cm xs word c.encode.new.word c.encode.result) (c.spell.ensures ∙ ap (λ n. carrying n payload) room) (c.encode.ensures.sound c.requires.code) in
+    let told = subst (λ (xs : List ℕ). Encoded cm xs word c.encode.new.word c.encode.result) (c.spread.ensures ∙ ap (λ n. carrying n payload) room) (c.encode.ensures.sound c.requires.code) in
     let got = encodes mm mm mm cm lc c.requires.joins page payload passed word c.encode.new.word c.encode.result zeros told in
     (got.0, got.1, passed)
 
