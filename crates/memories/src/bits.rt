@@ -4,7 +4,7 @@ ghost use Rattle.std.specs.List.{AllByRecursion};
 ghost use Rattle.words.specs.declared.fault.Kind.TheVariants.{SpareBitSet};
 ghost use Rattle.words.specs.declared.fault.Layer.TheVariants.{Memory as the_memory};
 ghost use Rattle.words.specs.Faults.{fault};
-ghost use Rattle.memory_laws.specs.Payload.{bytes_of, carrying, page_bytes, SpareClear};
+ghost use Rattle.memory_laws.specs.Payload.{bytes_of, carrying, FirstSpare, SpareClear};
 
 use words::bits::{spell, write_bits};
 use words::fault::{Fault, Kind, Layer};
@@ -46,7 +46,7 @@ fn first_one(bits: &[u8]) -> Option<usize>
 /// Refuses a message with a spare bit that is 1, at the first such bit.
 pub(crate) fn check_spare(message: &[u8]) -> Result<(), Fault>
     requires { AllByRecursion (λ b. b < 2) message.now }
-    ensures { MatchResult result (λ _. SpareClear (length message.now) message.now) (λ f. (bit : ℕ) × (f ≡ fault SpareBitSet the_memory bit) × (8 * page_bytes (length message.now) ≤ bit) × (slice_index message.now bit ≡ 1) × ((i : ℕ) → 8 * page_bytes (length message.now) ≤ i → i < bit → slice_index message.now i ≡ 0)) }
+    ensures { MatchResult result (λ _. SpareClear (length message.now) message.now) (λ f. (bit : ℕ) × (f ≡ fault SpareBitSet the_memory bit) × FirstSpare (length message.now) message.now bit) }
 {
     let used = 8 * (message.len() / 8);
     match first_one(&message[used..]) {

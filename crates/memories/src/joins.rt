@@ -1,17 +1,11 @@
 // Whether a code fits a medium.
-ghost use Rattle.std.specs.Prelude.{◌≡◌, ◌&&◌, MatchResult, ◌==◌, nat_le};
+ghost use Rattle.std.specs.Prelude.{MatchResult};
 ghost use Rattle.memories.specs.Promises.{Joined, Refuses};
 
 use crate::memory::Memory;
 use codes::code::Code;
 use media::medium::Medium;
 use words::fault::{Fault, Kind, Layer};
-
-fn fits(width: usize, len: usize, breadth: usize, message_len: usize) -> bool
-    ensures { result ≡ ((width == 1 && len == breadth) && nat_le 8 message_len) }
-{
-    width == 1 && len == breadth && message_len >= 8
-}
 
 impl<M: Medium, C: Code> Memory<'_, M, C> {
     /// Refuses a medium or a code that is not sound, and a code whose width is not 1, whose length is not a page's, or that carries no byte.
@@ -20,12 +14,10 @@ impl<M: Medium, C: Code> Memory<'_, M, C> {
     {
         self.medium.check()?;
         self.code.check()?;
-        if fits(
-            self.code.width(),
-            self.code.len(),
-            self.medium.breadth(),
-            self.code.message_len(),
-        ) {
+        if self.code.width() == 1
+            && self.code.len() == self.medium.breadth()
+            && self.code.message_len() >= 8
+        {
             Ok(())
         } else {
             Err(Fault::new(Kind::UnfitMemory, Layer::Memory, 0))

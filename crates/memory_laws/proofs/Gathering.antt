@@ -10,7 +10,7 @@ use Rattle.std.proofs.lemmas.Bool.{eqb-true, eqb-false}
 use Rattle.std.proofs.lemmas.List.{get_or-drop, length-drop, drop-drop, nil_from_length}
 use Rattle.words.specs.Bits.{spelled}
 use Rattle.words.proofs.Spelling.{spelled_more, spelled_front}
-use Rattle.memory_laws.specs.Payload.{byte_at, bytes_of, page_bytes, SpareClear}
+use Rattle.memory_laws.specs.Payload.{byte_at, bytes_of, page_bytes, FirstSpare, SpareClear}
 
 -- eight bits spell the byte that they are gathered to
 pub byte_spelled : (bits : List ℕ) → 8 ≤ length bits → AllByRecursion (λ b. b < 2) bits → (spelled (take 8 bits) % 2 ^ 16 ≡ byte_at bits) × (byte_at bits < 256)
@@ -55,12 +55,16 @@ not_one message used k small from within e =
     omega (arith, is, All-get_or (λ b. b < 2) message k 0 within small, eqb-false _ 1 e)
 
 -- the first spare bit that is set
-pub spare_set : (message : List ℕ) (i : ℕ) → AllByRecursion (λ b. b < 2) message → position is_one (drop (8 * page_bytes (length message)) message) ≡ Some i → (get_or message (8 * page_bytes (length message) + i) 0 ≡ 1) × ((k : ℕ) → 8 * page_bytes (length message) ≤ k → k < 8 * page_bytes (length message) + i → get_or message k 0 ≡ 0)
+pub spare_set : (message : List ℕ) (i : ℕ) → AllByRecursion (λ b. b < 2) message → position is_one (drop (8 * page_bytes (length message)) message) ≡ Some i → FirstSpare (length message) message (8 * page_bytes (length message) + i)
 spare_set message i small found =
     let used = 8 * page_bytes (length message) in
-    let first = position-Some is_one (drop used message) i 0 found in
+    let one = position-Some is_one (drop used message) i 0 found in
     let long = length-drop used message in
-    (sym (get_or-drop used message i 0) ∙ eqb-true _ 1 first.1, λ k from to. not_one message used k small from (omega (arith, first.0)) (first.2 (k - used) (omega arith)))
+    record {
+      spare = omega arith;
+      set = sym (get_or-drop used message i 0) ∙ eqb-true _ 1 one.1;
+      first = λ k from to. not_one message used k small from (omega (arith, one.0)) (one.2 (k - used) (omega arith));
+    }
 
 -- and that there is none
 pub spare_unset : (message : List ℕ) → AllByRecursion (λ b. b < 2) message → position is_one (drop (8 * page_bytes (length message)) message) ≡ None → SpareClear (length message) message

@@ -13,8 +13,7 @@ pub returns-in-Some : goal.returns-in-Some
 returns-in-Some c =
     let message = c.args.message.now in
     let used = 8 * (length message / 8) in
-    let found = spare_set message c.in-Some.spare c.requires (tail message used c.first_one.ensures c.in-Some.is) in
-    (used + c.in-Some.spare, c.new.ensures, omega arith, found.0, found.1)
+    (used + c.in-Some.spare, c.new.ensures, spare_set message c.in-Some.spare c.requires (tail message used c.first_one.ensures c.in-Some.is))
 
 pub returns-in-None : goal.returns-in-None
 returns-in-None c =

@@ -1,17 +1,13 @@
-use Rattle.std.proofs.Common.{◌≡◌, ℕ, ◌/◌, ◌≤◌, cond, eqb, ltb, List, [], ◌∷◌, length, take, replicate, Some, None, Ok, count_by, Result, ap, ◌∙◌, subst, subst₂, arith}
+use Rattle.std.proofs.Common.{◌≡◌, ℕ, eqb, List, length, take, replicate, None, Ok, count_by, Result, ap, ◌∙◌, subst}
 use Rattle.std.proofs.lemmas.List.{length-replicate}
 use Rattle.words.specs.declared.fault.Fault.{Fault}
-use Rattle.words.specs.declared.fault.Kind.TheVariants.{PageOutOfRange}
-use Rattle.words.specs.declared.fault.Layer.TheVariants.{Medium, Memory}
-use Rattle.words.specs.Buffers.{either, refusal, written_to}
-use Rattle.words.specs.Faults.{fault}
 use Rattle.words.proofs.Rises.{checked_ok}
 use Rattle.codes.specs.Model.{CodeModel}
 use Rattle.codes.specs.Promises.{Encoded}
 use Rattle.media_laws.specs.Model.{MediumModel, Changed, stored}
 use Rattle.memory_laws.specs.Calls.{blanks, payload_refusal, recording}
 use Rattle.memory_laws.specs.Payload.{carrying}
-use Rattle.memory_laws.proofs.Accepts.{ok_not_err, cleared, encodes, puts, fetches}
+use Rattle.memory_laws.proofs.Accepts.{ok_not_err, call_passed, clear_message, clear_word, encodes, puts, fetches}
 use Rattle.memories.proofs.memory.Memory.record.Given as given
 use Rattle.memories.proofs.memory.Memory.record.Goals as goal
 use Rattle.memories.proofs.memory.Memory.record.Goals.{After-encode, After-put, After-fetch}
@@ -28,10 +24,9 @@ encoded g c =
     let payload = c.args.payload.now in
     let lc = g.met.C.Code.lawful c.args.self.now.code c.requires.code in
     let bits = c.message_len-bits.ensures c.requires.code in
-    let passed : payload_refusal mm cm page payload ≡ None = subst₂ (λ (n k : ℕ). either (cond (ltb page n) None (Some (fault PageOutOfRange Medium page))) (refusal Memory (written_to (k / 8) payload ∷ [])) ≡ None) (c.pages.ensures c.requires.medium) bits (checked_ok _ c.in_ok-check_call.ensures) in
-    let few_bits : cm.message_len ≤ 4096 = omega (arith, lc.message_within, lc.short) in
-    let room = ap length (cleared cm.message_len c.message_len-bits.result bits few_bits) ∙ length-replicate {A = ℕ} cm.message_len 0 in
-    let zeros = cleared cm.len c.len-cells.result (c.len-cells.ensures c.requires.code) lc.short in
+    let passed = call_passed mm cm page c.pages.result c.message_len-bits.result payload (c.pages.ensures c.requires.medium) bits (checked_ok _ c.in_ok-check_call.ensures) in
+    let room = ap length (clear_message cm lc c.message_len-bits.result bits) ∙ length-replicate {A = ℕ} cm.message_len 0 in
+    let zeros = clear_word cm lc c.len-cells.result (c.len-cells.ensures c.requires.code) in
     let word = take c.len-cells.result (replicate 4096 0) in
     let told = subst (λ (xs : List ℕ). Encoded cm xs word c.encode.new.word c.encode.result) (c.spread.ensures ∙ ap (λ n. carrying n payload) room) (c.encode.ensures.sound c.requires.code) in
     let got = encodes mm mm mm cm lc c.requires.joins page payload passed word c.encode.new.word c.encode.result zeros told in
@@ -68,7 +63,7 @@ seen g c is put =
     let cm = g.C.Code.model c.args.self.now.code in
     let lc = g.met.C.Code.lawful c.args.self.now.code c.requires.code in
     let told = c.fetch.ensures.called.sound put.0 in
-    let zeros = cleared cm.len c.len-cells.result (c.len-cells.ensures c.requires.code) lc.short in
+    let zeros = clear_word cm lc c.len-cells.result (c.len-cells.ensures c.requires.code) in
     let got = fetches mm mid end cm lc c.requires.joins c.args.page c.args.payload.now is.2 c.encode.new.word (take c.len-cells.result (replicate 4096 0)) c.fetch.new.cells c.fetch.new.marks c.fetch.result is.1 zeros put.1.1 told.1 in
     (told.0, (got.0, got.1.0), got.1.1)
 

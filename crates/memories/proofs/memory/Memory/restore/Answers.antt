@@ -6,7 +6,7 @@ use Rattle.words.proofs.Rises.{raised}
 use Rattle.codes.specs.Model.{Message}
 use Rattle.media_laws.specs.Model.{Unchanged}
 use Rattle.memory_laws.specs.Calls.{Restored, word_of, marks_of}
-use Rattle.memory_laws.proofs.Accepts.{ok_not_err, cleared}
+use Rattle.memory_laws.proofs.Accepts.{ok_not_err, clear_word}
 use Rattle.memory_laws.proofs.Restoring.{Nearest, fetches_page, corrects, recovers, restored_clear, restored_spare}
 use Rattle.memories.proofs.memory.Memory.restore.Given as given
 use Rattle.memories.proofs.memory.Memory.restore.Goals as goal
@@ -22,7 +22,7 @@ fetched g c =
     let lc = g.met.C.Code.lawful self.code c.requires.joined.code in
     let told = c.fetch.ensures.called.sound c.requires.joined.medium in
     let long = ap length c.requires.word ∙ length-replicate {A = ℕ} cm.len 0 in
-    let got = fetches_page mm (g.M.Medium.model c.fetch.new.self) cm lm lc c.requires.joined.joins c.args.page c.requires.page c.args.word.now (take (length c.args.word.now) (replicate 4096 0)) c.fetch.new.cells c.fetch.new.marks c.fetch.result c.requires.word (cleared cm.len (length c.args.word.now) long lc.short) told.1 in
+    let got = fetches_page mm (g.M.Medium.model c.fetch.new.self) cm lm lc c.requires.joined.joins c.args.page c.requires.page c.args.word.now (take (length c.args.word.now) (replicate 4096 0)) c.fetch.new.cells c.fetch.new.marks c.fetch.result c.requires.word (clear_word cm lc (length c.args.word.now) long) told.1 in
     ((told.0, got.0), got.1)
 
 pub returns-in_err-fetch : goal.returns-in_err-fetch
