@@ -11,8 +11,8 @@ use Rattle.media_laws.proofs.Pages.{length_page, length_over}
 use Rattle.media.proofs.Working.{worked, none_of_both, page_passed}
 use Rattle.media.proofs.grid.GridMedium.put.Goals as goal
 
-pub returns : goal.returns
-returns c =
+pub returns-clause-called : goal.returns-clause-called
+returns-clause-called c =
     let self = c.args.self.now in
     let bytes = self.bytes.now in
     let p = c.args.page in
@@ -30,11 +30,7 @@ returns c =
     let long : length (put_bytes (page_bytes bytes n p) cells) ≡ n = length_put (page_bytes bytes n p) cells ∙ length_page bytes n self.pages fits.2 p page in
     let Good : List ℕ → Type 0 = λ ys. GridFits ys self.pages n × Put model (grid ys self.pages n) p cells (Ok tt) in
     record {
-      called = record {
-        sound = λ _. subst Good (sym after) ((fits.0, fits.1, length_over bytes n self.pages fits.2 (put_bytes (page_bytes bytes n p) cells) p page long), worked _ _ _ (none_of_both (page_refusal model p) (refusal Medium (values_below 2 n cells ∷ [])) page-ok put-ok) (refl, grid_put bytes self.pages n fits p page cells given.0.1));
-        unsound = λ no. absurd (no fits);
-        refused = λ no. absurd (no fits);
-      };
-      lender = refl;
-      bytes = after;
+      sound = λ _. subst Good (sym after) ((fits.0, fits.1, length_over bytes n self.pages fits.2 (put_bytes (page_bytes bytes n p) cells) p page long), worked _ _ _ (none_of_both (page_refusal model p) (refusal Medium (values_below 2 n cells ∷ [])) page-ok put-ok) (refl, grid_put bytes self.pages n fits p page cells given.0.1));
+      unsound = λ no. absurd (no fits);
+      refused = λ no. absurd (no fits);
     }

@@ -7,8 +7,8 @@ use Rattle.media_laws.proofs.Grids.{grid_wear}
 use Rattle.media.proofs.Working.{worked, none_of_both, page_passed, cell_passed}
 use Rattle.media.proofs.grid.GridMedium.wear.Goals as goal
 
-pub returns : goal.returns
-returns c =
+pub returns-clause-called : goal.returns-clause-called
+returns-clause-called c =
     let self = c.args.self.now in
     let bytes = self.bytes.now in
     let p = c.args.page in
@@ -19,11 +19,7 @@ returns c =
     let page = page_passed p self.pages _ page-ok in
     let cell = cell_passed c.args.cell self.breadth c.args.state _ cell-ok in
     record {
-      called = record {
-        sound = λ _. ((fits.0, fits.1, length-set bytes (p * self.breadth + c.args.cell) c.args.state ∙ fits.2), worked _ _ _ (none_of_both (page_refusal model p) (cell_refusal model c.args.cell c.args.state) page-ok cell-ok) (refl, grid_wear bytes self.pages self.breadth fits p page c.args.cell c.args.state cell.0 cell.1));
-        unsound = λ no. absurd (no fits);
-        refused = λ no. absurd (no fits);
-      };
-      lender = refl;
-      bytes = refl;
+      sound = λ _. ((fits.0, fits.1, length-set bytes (p * self.breadth + c.args.cell) c.args.state ∙ fits.2), worked _ _ _ (none_of_both (page_refusal model p) (cell_refusal model c.args.cell c.args.state) page-ok cell-ok) (refl, grid_wear bytes self.pages self.breadth fits p page c.args.cell c.args.state cell.0 cell.1));
+      unsound = λ no. absurd (no fits);
+      refused = λ no. absurd (no fits);
     }

@@ -26,8 +26,8 @@ store-requires c =
       cells = given.0.1;
     }
 
-pub returns : goal.returns
-returns c =
+pub returns-clause-called : goal.returns-clause-called
+returns-clause-called c =
     let self = c.args.self.now in
     let bytes = self.bytes.now in
     let bytes' = c.store.new.bytes in
@@ -43,11 +43,7 @@ returns c =
     let at-page = subst₂ (λ (v m : ℕ). BitsPut bytes bytes' v m cells (length cells)) c.first_value-value.ensures c.first_mark-mark.ensures c.store.ensures in
     let put : BitsPut bytes bytes' (first_value n p) (first_mark n p) cells n = subst (λ (k : ℕ). BitsPut bytes bytes' (first_value n p) (first_mark n p) cells k) long at-page in
     record {
-      called = record {
-        sound = λ _. ((fits.0, fits.1, put.long ∙ fits.2), worked _ _ _ (none_of_both (page_refusal model p) (refusal Medium (values_below 2 n cells ∷ [])) page-ok put-ok) (refl, packed_put bytes bytes' self.pages n p cells long put));
-        unsound = λ no. absurd (no fits);
-        refused = λ no. absurd (no fits);
-      };
-      lender = refl;
-      bytes = put;
+      sound = λ _. ((fits.0, fits.1, put.long ∙ fits.2), worked _ _ _ (none_of_both (page_refusal model p) (refusal Medium (values_below 2 n cells ∷ [])) page-ok put-ok) (refl, packed_put bytes bytes' self.pages n p cells long put));
+      unsound = λ no. absurd (no fits);
+      refused = λ no. absurd (no fits);
     }

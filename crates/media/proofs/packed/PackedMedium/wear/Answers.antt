@@ -7,8 +7,8 @@ use Rattle.media_laws.proofs.Packs.{packed_wear}
 use Rattle.media.proofs.Working.{worked, none_of_both, cell_passed, state_kept}
 use Rattle.media.proofs.packed.PackedMedium.wear.Goals as goal
 
-pub returns : goal.returns
-returns c =
+pub returns-clause-called : goal.returns-clause-called
+returns-clause-called c =
     let self = c.args.self.now in
     let bytes = self.bytes.now in
     let p = c.args.page in
@@ -24,11 +24,7 @@ returns c =
     let at-bits = subst₂ (λ (v m : ℕ). BitsWorn bytes bytes' (v + i) (m + i) (number c.from.result)) c.first_value.ensures c.first_mark.ensures c.wear_bits.ensures in
     let worn : BitsWorn bytes bytes' (first_value n p + i) (first_mark n p + i) s = subst (λ (t : ℕ). BitsWorn bytes bytes' (first_value n p + i) (first_mark n p + i) t) (c.from.ensures ∙ state_kept s cell.1) at-bits in
     record {
-      called = record {
-        sound = λ _. ((fits.0, fits.1, worn.long ∙ fits.2), worked _ _ _ (none_of_both (page_refusal model p) (cell_refusal model i s) page-ok cell-ok) (refl, packed_wear bytes bytes' self.pages n p i s cell.0 cell.1 worn));
-        unsound = λ no. absurd (no fits);
-        refused = λ no. absurd (no fits);
-      };
-      lender = refl;
-      bytes = worn;
+      sound = λ _. ((fits.0, fits.1, worn.long ∙ fits.2), worked _ _ _ (none_of_both (page_refusal model p) (cell_refusal model i s) page-ok cell-ok) (refl, packed_wear bytes bytes' self.pages n p i s cell.0 cell.1 worn));
+      unsound = λ no. absurd (no fits);
+      refused = λ no. absurd (no fits);
     }

@@ -39,6 +39,3 @@ put_back g c =
 pub returns-in_err-put : goal.returns-in_err-put
 returns-in_err-put g c =
     absurd (ok_not_err c.put.result tt c.in_err-put.field-0.0 (put_back g (goal.at.returns-in_err-put g c).After-put).1.0 c.in_err-put.was)
-
-pub returns-clause-done : goal.returns-clause-done
-returns-clause-done g c = let put = put_back g (goal.at.returns-clause-done g c).After-put in (put.0, put.1.1)

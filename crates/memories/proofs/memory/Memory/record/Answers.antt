@@ -72,10 +72,3 @@ returns-in_err-fetch g c =
     let at = goal.at.returns-in_err-fetch g c in
     let is = encoded g at.After-encode in
     absurd (ok_not_err c.fetch.result tt c.in_err-fetch.field-0.0 (seen g at.After-fetch is (put_to_page g at.After-put is)).1.0 c.in_err-fetch.was)
-
-pub returns-clause-done : goal.returns-clause-done
-returns-clause-done g c =
-    let at = goal.at.returns-clause-done g c in
-    let is = encoded g at.After-encode in
-    let got = seen g at.After-fetch is (put_to_page g at.After-put is) in
-    (got.0, rw is.2 (ap Ok (c.count_marks.ensures ∙ got.2), got.1.1))

@@ -7,7 +7,7 @@ use Rattle.codes.specs.Model.{Message}
 use Rattle.media_laws.specs.Model.{Unchanged}
 use Rattle.memory_laws.specs.Calls.{Restored, word_of, marks_of}
 use Rattle.memory_laws.proofs.Accepts.{ok_not_err, clear_word}
-use Rattle.memory_laws.proofs.Restoring.{Nearest, fetches_page, corrects, recovers, restored_clear, restored_spare}
+use Rattle.memory_laws.proofs.Restoring.{Nearest, fetches_page, corrects, recovers}
 use Rattle.memories.proofs.memory.Memory.restore.Given as given
 use Rattle.memories.proofs.memory.Memory.restore.Goals as goal
 use Rattle.memories.proofs.memory.Memory.restore.Goals.{After-fetch, After-message_of}
@@ -65,25 +65,3 @@ check_spare-requires g c =
     let at = goal.at.check_spare-requires g c in
     let got = fetched g at.After-fetch in
     subst (λ (x : ℕ). AllByRecursion (λ v. v < 2 ^ x) c.message_of.new.message) c.requires.joined.joins.bits (recovered g at.After-message_of got.1.1 got.1.2).1.1.1
-
-pub returns-in_err-check_spare-clause-done : goal.returns-in_err-check_spare-clause-done
-returns-in_err-check_spare-clause-done g c =
-    let mm = g.M.Medium.model c.args.self.now.medium.now in
-    let cm = g.C.Code.model c.args.self.now.code in
-    let p = c.args.page in
-    let word = c.correct.new.word in
-    let message = c.message_of.new.message in
-    let at = goal.at.returns-in_err-check_spare-clause-done g c in
-    let got = fetched g at.After-fetch in
-    let back = recovered g at.After-message_of got.1.1 got.1.2 in
-    let is = raised c.from_residual-in_err-check_spare.result c.from_residual-in_err-check_spare.ensures.1 in
-    (got.0.0, (got.0.1, subst (Restored mm cm p message word) (sym is) (restored_spare mm cm p message word c.in_ok-harm.harm back.0 back.1.1 back.1.2 c.in_err-check_spare.field-0.0 c.in_err-check_spare.ensures)))
-
-pub returns-clause-done : goal.returns-clause-done
-returns-clause-done g c =
-    let mm = g.M.Medium.model c.args.self.now.medium.now in
-    let cm = g.C.Code.model c.args.self.now.code in
-    let at = goal.at.returns-clause-done g c in
-    let got = fetched g at.After-fetch in
-    let back = recovered g at.After-message_of got.1.1 got.1.2 in
-    (got.0.0, (got.0.1, restored_clear mm cm c.args.page c.message_of.new.message c.correct.new.word c.in_ok-harm.harm back.0 back.1.1 back.1.2 c.in_ok-check_spare.ensures))
