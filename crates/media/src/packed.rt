@@ -22,6 +22,27 @@ pub struct Packed<'a> {
     pub breadth: usize,
 }
 
+// Where the two bits of a cell stand.
+#[derive(Clone, Copy)]
+struct Place {
+    value: usize,
+    mark: usize,
+}
+
+impl Place {
+    // Where those of a cell further on in the page do.
+    fn further(self, cells: usize) -> Place
+        requires { (self.value + cells < 2 ^ 64) × (self.mark + cells < 2 ^ 64) }
+        ensures value { result.value ≡ self.value + cells }
+        ensures mark { result.mark ≡ self.mark + cells }
+    {
+        Place {
+            value: self.value + cells,
+            mark: self.mark + cells,
+        }
+    }
+}
+
 fn weight(at: usize) -> u8
     ensures { result ≡ 2 ^ (7 - at % 8) }
 {
@@ -52,63 +73,63 @@ fn set_bit(bytes: &mut [u8], at: usize, bit: u8)
     bytes[at / 8] = with_bit(bytes[at / 8], weight(at), bit);
 }
 
-// The state of the cell with these bits; under a mark its value is ignored.
-fn state(bytes: &[u8], value: usize, mark: usize) -> State
-    requires { (value < 8 * length bytes.now) × (mark < 8 * length bytes.now) }
-    ensures { number result ≡ cell_of (bit_of bytes.now value) (bit_of bytes.now mark) }
+// The state of a cell; under a mark its value is ignored.
+fn state(bytes: &[u8], place: Place) -> State
+    requires { (place.value < 8 * length bytes.now) × (place.mark < 8 * length bytes.now) }
+    ensures { number result ≡ cell_of (bit_of bytes.now place.value) (bit_of bytes.now place.mark) }
 {
-    if bit(bytes, mark) == 1 {
+    if bit(bytes, place.mark) == 1 {
         State::Blank
     } else {
-        State::from(bit(bytes, value))
+        State::from(bit(bytes, place.value))
     }
 }
 
-fn show(bytes: &[u8], first_value: usize, first_mark: usize, cells: &mut [u8], marks: &mut [u8])
-    requires values { first_value + length cells.old ≤ 8 * length bytes.now }
-    requires marks { first_mark + length cells.old ≤ 8 * length bytes.now }
+fn show(bytes: &[u8], first: Place, cells: &mut [u8], marks: &mut [u8])
+    requires values { first.value + length cells.old ≤ 8 * length bytes.now }
+    requires marks { first.mark + length cells.old ≤ 8 * length bytes.now }
     requires lengths { (length marks.old ≡ length cells.old) × (length bytes.now < 2 ^ 60) }
-    ensures cells { cells.new ≡ map (λ i. value_of (cell_at bytes.now first_value first_mark i)) (range_with_len 0 (length cells.old)) }
-    ensures marks { marks.new ≡ map (λ i. mark_of (cell_at bytes.now first_value first_mark i)) (range_with_len 0 (length cells.old)) }
+    ensures cells { cells.new ≡ map (λ i. value_of (cell_at bytes.now first.value first.mark i)) (range_with_len 0 (length cells.old)) }
+    ensures marks { marks.new ≡ map (λ i. mark_of (cell_at bytes.now first.value first.mark i)) (range_with_len 0 (length cells.old)) }
 {
     for (i, cell) in cells.iter_mut().enumerate() {
-        let state = state(bytes, first_value + i, first_mark + i);
+        let state = state(bytes, first.further(i));
         *cell = state.value();
         marks[i] = state.mark();
     }
 }
 
 // Puts a value to a cell that is not blank.
-fn put_cell(bytes: &mut [u8], value: usize, mark: usize, cell: u8)
-    requires { (value < 8 * length bytes.old) × ((mark < 8 * length bytes.old) × (cell < 2)) }
-    ensures { BitSet bytes.old bytes.new value (put_bit bytes.old value mark cell) }
+fn put_cell(bytes: &mut [u8], place: Place, cell: u8)
+    requires { (place.value < 8 * length bytes.old) × ((place.mark < 8 * length bytes.old) × (cell < 2)) }
+    ensures { BitSet bytes.old bytes.new place.value (put_bit bytes.old place.value place.mark cell) }
 {
-    if bit(bytes, mark) == 0 {
-        set_bit(bytes, value, cell);
+    if bit(bytes, place.mark) == 0 {
+        set_bit(bytes, place.value, cell);
     }
 }
 
 #[tactic(auto, using(media_laws::proofs::Packs::put_more, media_laws::proofs::Packs::put_none))]
-fn store(bytes: &mut [u8], first_value: usize, first_mark: usize, cells: &[u8])
-    requires apart { first_value + length cells.now ≤ first_mark }
-    requires within { (first_mark + length cells.now ≤ 8 * length bytes.old) × (length bytes.old < 2 ^ 60) }
+fn store(bytes: &mut [u8], first: Place, cells: &[u8])
+    requires apart { first.value + length cells.now ≤ first.mark }
+    requires within { (first.mark + length cells.now ≤ 8 * length bytes.old) × (length bytes.old < 2 ^ 60) }
     requires cells { AllByRecursion (λ v. v < 2) cells.now }
-    ensures { BitsPut bytes.old bytes.new first_value first_mark cells.now (length cells.now) }
+    ensures { BitsPut bytes.old bytes.new first.value first.mark cells.now (length cells.now) }
 {
     for (i, cell) in cells.iter().enumerate() {
-        put_cell(bytes, first_value + i, first_mark + i, *cell);
+        put_cell(bytes, first.further(i), *cell);
     }
 }
 
-fn wear_bits(bytes: &mut [u8], value: usize, mark: usize, state: State)
-    requires { (value < mark) × (mark < 8 * length bytes.old) }
-    ensures { BitsWorn bytes.old bytes.new value mark (number state) }
+fn wear_bits(bytes: &mut [u8], place: Place, state: State)
+    requires { (place.value < place.mark) × (place.mark < 8 * length bytes.old) }
+    ensures { BitsWorn bytes.old bytes.new place.value place.mark (number state) }
 {
     if state == State::Blank {
-        set_bit(bytes, mark, 1);
+        set_bit(bytes, place.mark, 1);
     } else {
-        set_bit(bytes, value, state.value());
-        set_bit(bytes, mark, 0);
+        set_bit(bytes, place.value, state.value());
+        set_bit(bytes, place.mark, 0);
     }
 }
 
@@ -120,31 +141,27 @@ fn row_bytes(breadth: usize) -> usize
     breadth.div_ceil(8)
 }
 
-// Where a page's value bits begin.
-fn first_value(breadth: usize, page: usize) -> usize
-    requires { (breadth ≤ 4096) × (page < 65536) }
-    ensures { result ≡ first_value breadth page }
-{
-    8 * (page * (2 * row_bytes(breadth)))
-}
-
-// Where its mark bits do.
-fn first_mark(breadth: usize, page: usize) -> usize
-    requires { (breadth ≤ 4096) × (page < 65536) }
-    ensures { result ≡ first_mark breadth page }
-{
-    first_value(breadth, page) + 8 * row_bytes(breadth)
-}
-
 impl Packed<'_> {
+    // Where the bits of a page's first cell stand.
+    fn first(&self, page: usize) -> Place
+        requires { (self.now.breadth ≤ 4096) × (page < 65536) }
+        ensures value { result.value ≡ first_value self.now.breadth page }
+        ensures mark { result.mark ≡ first_mark self.now.breadth page }
+    {
+        let row = row_bytes(self.breadth);
+        let value = 8 * (page * (2 * row));
+        Place {
+            value,
+            mark: value + 8 * row,
+        }
+    }
+
     fn show_page(&self, page: usize, cells: &mut [u8], marks: &mut [u8])
         requires { (PackedSound self.now) × ((page < self.now.pages) × ((length cells.old ≡ self.now.breadth) × (length marks.old ≡ self.now.breadth))) }
         ensures cells { cells.new ≡ map value_of ((packed_of self.now).page page) }
         ensures marks { marks.new ≡ map mark_of ((packed_of self.now).page page) }
     {
-        let value = first_value(self.breadth, page);
-        let mark = first_mark(self.breadth, page);
-        show(self.bytes, value, mark, cells, marks);
+        show(self.bytes, self.first(page), cells, marks);
     }
 }
 
@@ -196,9 +213,8 @@ impl Medium for Packed<'_> {
         self.check()?;
         check_page(page, self.pages)?;
         check_put(cells, self.breadth)?;
-        let value = first_value(self.breadth, page);
-        let mark = first_mark(self.breadth, page);
-        store(self.bytes, value, mark, cells);
+        let first = self.first(page);
+        store(self.bytes, first, cells);
         Ok(())
     }
 
@@ -210,9 +226,8 @@ impl Medium for Packed<'_> {
         self.check()?;
         check_page(page, self.pages)?;
         check_cell(cell, self.breadth, state)?;
-        let value = first_value(self.breadth, page) + cell;
-        let mark = first_mark(self.breadth, page) + cell;
-        wear_bits(self.bytes, value, mark, State::from(state));
+        let place = self.first(page).further(cell);
+        wear_bits(self.bytes, place, State::from(state));
         Ok(())
     }
 }

@@ -1,4 +1,4 @@
-use Rattle.std.proofs.Common.{ℕ, ◌+◌, refl, ◌∙◌, subst, subst₂}
+use Rattle.std.proofs.Common.{ℕ, ◌+◌, refl, ap, ◌∙◌, subst, subst₂}
 use Rattle.words.proofs.Rises.{checked_ok}
 use Rattle.media_laws.specs.Packed.{packed, first_value, first_mark, BitsWorn}
 use Rattle.media.specs.Promises.{page_refusal, cell_refusal}
@@ -21,7 +21,9 @@ returns-clause-called c =
     let cell-ok = checked_ok _ c.in_ok-check_cell.ensures in
     let cell = cell_passed i n s _ cell-ok in
     let bytes' = c.wear_bits.new.bytes in
-    let at-bits = subst₂ (λ (v m : ℕ). BitsWorn bytes bytes' (v + i) (m + i) (number c.from.result)) c.first_value.ensures c.first_mark.ensures c.wear_bits.ensures in
+    let value = c.further-place.ensures.value ∙ ap (λ v. v + i) c.first.ensures.value in
+    let mark = c.further-place.ensures.mark ∙ ap (λ m. m + i) c.first.ensures.mark in
+    let at-bits = subst₂ (λ (v m : ℕ). BitsWorn bytes bytes' v m (number c.from.result)) value mark c.wear_bits.ensures in
     let worn : BitsWorn bytes bytes' (first_value n p + i) (first_mark n p + i) s = subst (λ (t : ℕ). BitsWorn bytes bytes' (first_value n p + i) (first_mark n p + i) t) (c.from.ensures ∙ state_kept s cell.1) at-bits in
     record {
       sound = λ _. ((fits.0, fits.1, worn.long ∙ fits.2), worked _ _ _ (none_of_both (page_refusal model p) (cell_refusal model i s) page-ok cell-ok) (refl, packed_wear bytes bytes' self.pages n p i s cell.0 cell.1 worn));
