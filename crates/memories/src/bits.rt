@@ -15,6 +15,7 @@ pub(crate) fn spread(payload: &[u8], message: &mut [u8])
     ensures { message.new ≡ carrying (length message.old) payload.now }
 {
     message.fill(0);
+    // Eight places at a time: of what a zip with `chunks_exact_mut` writes nothing is proved.
     for (i, byte) in payload.iter().enumerate() {
         write_bits(u16::from(*byte), &mut message[8 * i..8 * i + 8]);
     }
@@ -32,6 +33,7 @@ pub(crate) fn gather(message: &[u8], payload: &mut [u8])
     requires { (8 * length payload.old ≤ length message.now) × (AllByRecursion (λ b. b < 2) message.now) }
     ensures { payload.new ≡ bytes_of (length payload.old) message.now }
 {
+    // Nor is anything proved of what a zip of `iter_mut` writes.
     for (i, byte) in payload.iter_mut().enumerate() {
         *byte = spell(&message[8 * i..8 * i + 8]) as u8;
     }
