@@ -44,6 +44,7 @@ pub trait Medium {
         ensures lender { lender self.new ≡ lender self.old };
 
     /// Sets one cell to a state: 0, 1, or 2 for blank.
+    // A number and no enum, since a call may name a state that there is not, and is then refused by 18.
     fn wear(&mut self, page: usize, cell: usize, state: u8) -> Result<(), Fault>
         ensures called { Called (sound self.old) (sound self.new) (refuses self.old) (Worn (model self.old) (model self.new) page cell state result) (Unchanged (model self.old) (model self.new)) result }
         ensures lender { lender self.new ≡ lender self.old };

@@ -1,5 +1,5 @@
 // A page's bytes as the bits of a message, most significant bit first.
-ghost use Rattle.std.specs.Prelude.{◌≡◌, ℕ, ◌*◌, ◌<◌, ◌≤◌, length, count_by, position, MatchResult, nat_eq, slice_index};
+ghost use Rattle.std.specs.Prelude.{◌≡◌, ℕ, ◌*◌, ◌<◌, ◌≤◌, length, count_by, position, MatchResult, nat_eq};
 ghost use Rattle.std.specs.List.{AllByRecursion};
 ghost use Rattle.words.specs.declared.fault.Kind.TheVariants.{SpareBitSet};
 ghost use Rattle.words.specs.declared.fault.Layer.TheVariants.{Memory as the_memory};
