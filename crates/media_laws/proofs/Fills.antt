@@ -24,7 +24,3 @@ put_suc (b ∷ bytes) (v ∷ cells) (suc i) lb lc =
 -- one more cell is put
 pub put_more : (bytes cells : List ℕ) (i : ℕ) → i < length bytes → i < length cells → set (put_bytes bytes (take i cells)) i (put_byte (get_or (put_bytes bytes (take i cells)) i 0) (get_or cells i 0)) ≡ put_bytes bytes (take (i + 1) cells)
 put_more bytes cells i lb lc = put_suc bytes cells i lb lc ∙ ap (λ n. put_bytes bytes (take n cells)) (sym (add-one i))
-
-pub map_map : (f g : ℕ → ℕ) (xs : List ℕ) → map (λ x. f (g x)) xs ≡ map f (map g xs)
-map_map f g [] = refl
-map_map f g (x ∷ xs) = ap (λ rest. f (g x) ∷ rest) (map_map f g xs)

@@ -1,5 +1,5 @@
 -- The parts of a memory accept what it hands them. Assumes nothing.
-use Rattle.std.proofs.Common.{◌≡◌, ℕ, zero, suc, ◌/◌, ◌^◌, ◌<◌, ◌≤◌, Bool, true, false, cond, eqb, ltb, List, [], ◌∷◌, map, length, take, replicate, Some, None, Ok, Err, count_by, Result, sym, refl, ap, ◌∙◌, subst, subst₂, arith, lt-ltb}
+use Rattle.std.proofs.Common.{◌≡◌, ℕ, ◌/◌, ◌^◌, ◌<◌, ◌≤◌, Bool, true, false, cond, eqb, ltb, List, [], ◌∷◌, map, length, take, replicate, Some, None, Ok, Err, count_by, Result, sym, refl, ap, ◌∙◌, subst, subst₂, arith, lt-ltb}
 use Rattle.std.specs.List.{AllByRecursion}
 use Rattle.std.proofs.ByRecursion.{All-weaker}
 use Rattle.std.proofs.lemmas.List.{length-replicate, take-replicate}
@@ -18,6 +18,7 @@ use Rattle.media.specs.Promises.{Put, Fetched, page_refusal}
 use Rattle.memory_laws.specs.Calls.{Joins, blanks, payload_refusal, recording}
 use Rattle.memory_laws.specs.Payload.{carrying}
 use Rattle.memory_laws.proofs.Outcomes.{payload_passed}
+use Rattle.memory_laws.proofs.Payloads.{all_zeros}
 use Rattle.memory_laws.proofs.Steps.{carrying_message}
 
 pub page_passes : (m : MediumModel) (p : ℕ) → p < m.pages → page_refusal m p ≡ None
@@ -78,11 +79,7 @@ ok_not_err r x f a b = let z : ◌≡◌ {A = ℕ} 0 1 = cc in omega arith
 
 -- fresh work space
 pub fresh : (n : ℕ) → (length {A = ℕ} (replicate n 0) ≡ n) × AllByRecursion (λ b. b < 256) (replicate n 0)
-fresh n = (length-replicate n 0, all_fresh n)
-  where
-    all_fresh : (k : ℕ) → AllByRecursion (λ b. b < 256) (replicate k 0)
-    all_fresh zero = tt
-    all_fresh (suc k) = (omega arith, all_fresh k)
+fresh n = (length-replicate n 0, all_zeros (λ b. b < 256) n (omega arith))
 
 -- the front of a row of 4,096 zeros
 cleared : (n k : ℕ) → k ≡ n → n ≤ 4096 → take {A = ℕ} k (replicate 4096 0) ≡ replicate n 0
