@@ -7,17 +7,12 @@ ghost use Rattle.words.specs.Faults.{fault};
 
 use words::buffer::{Buffer, check_buffers};
 use words::fault::{Fault, Kind, Layer};
-
-/// The most pages that a medium has.
-pub const MOST_PAGES: usize = 65535;
-
-/// The most cells that a page has.
-pub const MOST_CELLS: usize = 4096;
+pub use words::limits::{MOST_CELLS, MOST_PAGES};
 
 pub(crate) fn in_range(pages: usize, breadth: usize) -> bool
     ensures { result ≡ ((nat_le 1 pages && nat_le pages 65535) && (nat_le 1 breadth && nat_le breadth 4096)) }
 {
-    1 <= pages && pages <= MOST_PAGES && 1 <= breadth && breadth <= MOST_CELLS
+    (1..=MOST_PAGES).contains(&pages) && (1..=MOST_CELLS).contains(&breadth)
 }
 
 /// Refuses a page that there is not.

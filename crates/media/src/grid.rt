@@ -1,16 +1,18 @@
 // The grid: one byte a cell.
-ghost use Rattle.std.specs.Prelude.{◌≡◌, ◌+◌, ◌*◌, ◌<◌, true, map, length, is_err, IfErr, MatchResult, slice_set};
+// The grid and packed cells are no twins: what they have in common is in `checks` and `state`, and the rest says how each lays out its cells.
+ghost use Rattle.std.specs.Prelude.{◌≡◌, ◌+◌, ◌*◌, ◌<◌, map, length, IfErr, MatchResult, slice_set};
 ghost use Rattle.words.specs.declared.fault.Kind.TheVariants.{UnfitMedium};
 ghost use Rattle.words.specs.declared.fault.Layer.TheVariants.{Medium as the_medium};
 ghost use Rattle.words.specs.Faults.{fault};
 ghost use Rattle.media_laws.specs.Grid.{GridFits, bytes_put, page_bytes, put_byte, put_bytes, state_of};
 ghost use Rattle.media_laws.specs.Model.{value_of, mark_of, Unchanged};
 ghost use Rattle.media.specs.Lent.{grid_of, GridSound, GridRefuses};
-ghost use Rattle.media.specs.Promises.{Fetched, Put, Worn};
+ghost use Rattle.media.specs.Promises.{Called, Fetched, Put, Worn};
 ghost use Rattle.media_laws.proofs.Grids.{grid_lawful};
 
 use crate::checks::{check_cell, check_fetch, check_page, check_put, in_range};
 use crate::medium::Medium;
+use crate::state::State;
 use words::fault::{Fault, Kind, Layer};
 
 /// One byte a cell, page after page: 0, 1, and blank from 2 up.
@@ -21,22 +23,14 @@ pub struct Grid<'a> {
     pub breadth: usize,
 }
 
-fn value(byte: u8) -> u8
-    ensures { result ≡ value_of (state_of byte) }
-{
-    if byte < 2 { byte } else { 0 }
-}
-
-fn mark(byte: u8) -> u8
-    ensures { result ≡ mark_of (state_of byte) }
-{
-    if byte < 2 { 0 } else { 1 }
-}
-
 fn put_to(byte: u8, cell: u8) -> u8
     ensures { result ≡ put_byte byte cell }
 {
-    if byte < 2 { cell } else { byte }
+    if State::from(byte) == State::Blank {
+        byte
+    } else {
+        cell
+    }
 }
 
 fn show(bytes: &[u8], cells: &mut [u8], marks: &mut [u8])
@@ -44,18 +38,21 @@ fn show(bytes: &[u8], cells: &mut [u8], marks: &mut [u8])
     ensures cells { cells.new ≡ map value_of (map state_of bytes.now) }
     ensures marks { marks.new ≡ map mark_of (map state_of bytes.now) }
 {
+    // Both are written in one pass: of what a zip of `iter_mut` writes nothing is proved.
     for (i, byte) in bytes.iter().enumerate() {
-        cells[i] = value(*byte);
-        marks[i] = mark(*byte);
+        let state = State::from(*byte);
+        cells[i] = state.value();
+        marks[i] = state.mark();
     }
 }
 
+#[tactic(auto, using(media_laws::proofs::Fills::put_none, media_laws::proofs::Fills::put_more))]
 fn store(bytes: &mut [u8], cells: &[u8])
     requires { length cells.now ≡ length bytes.old }
     ensures { bytes.new ≡ put_bytes bytes.old cells.now }
 {
-    for (i, cell) in cells.iter().enumerate() {
-        bytes[i] = put_to(bytes[i], *cell);
+    for (i, byte) in bytes.iter_mut().enumerate() {
+        *byte = put_to(*byte, cells[i]);
     }
 }
 
@@ -103,10 +100,9 @@ impl Medium for Grid<'_> {
         self.breadth
     }
 
+    // A clause that an impl adds to a method is written beside the trait's own, which stand here again for the sake of `bytes`.
     fn fetch(&mut self, page: usize, cells: &mut [u8], marks: &mut [u8]) -> Result<(), Fault>
-        ensures sound { GridSound self.old → GridSound self.new × Fetched (grid_of self.old) (grid_of self.new) page cells.old marks.old cells.new marks.new result }
-        ensures unsound { (GridSound self.old → ⊥) → (is_err result ≡ true) × Unchanged (grid_of self.old) (grid_of self.new) × (cells.new ≡ cells.old) × (marks.new ≡ marks.old) }
-        ensures refused { (GridSound self.old → ⊥) → MatchResult result (λ _. ⊥) (GridRefuses self.old) }
+        ensures called { Called (GridSound self.old) (GridSound self.new) (GridRefuses self.old) (Fetched (grid_of self.old) (grid_of self.new) page cells.old marks.old cells.new marks.new result) (Unchanged (grid_of self.old) (grid_of self.new) × (cells.new ≡ cells.old) × (marks.new ≡ marks.old)) result }
         ensures lender { self.new.bytes.ghost_name ≡ self.old.bytes.ghost_name }
         ensures bytes { self.new.bytes.now ≡ self.old.bytes.now }
     {
@@ -118,9 +114,7 @@ impl Medium for Grid<'_> {
     }
 
     fn put(&mut self, page: usize, cells: &[u8]) -> Result<(), Fault>
-        ensures sound { GridSound self.old → GridSound self.new × Put (grid_of self.old) (grid_of self.new) page cells.now result }
-        ensures unsound { (GridSound self.old → ⊥) → (is_err result ≡ true) × Unchanged (grid_of self.old) (grid_of self.new) }
-        ensures refused { (GridSound self.old → ⊥) → MatchResult result (λ _. ⊥) (GridRefuses self.old) }
+        ensures called { Called (GridSound self.old) (GridSound self.new) (GridRefuses self.old) (Put (grid_of self.old) (grid_of self.new) page cells.now result) (Unchanged (grid_of self.old) (grid_of self.new)) result }
         ensures lender { self.new.bytes.ghost_name ≡ self.old.bytes.ghost_name }
         ensures bytes { MatchResult result (λ _. self.new.bytes.now ≡ bytes_put self.old.bytes.now self.old.breadth page cells.now) (λ _. self.new.bytes.now ≡ self.old.bytes.now) }
     {
@@ -134,9 +128,7 @@ impl Medium for Grid<'_> {
     }
 
     fn wear(&mut self, page: usize, cell: usize, state: u8) -> Result<(), Fault>
-        ensures sound { GridSound self.old → GridSound self.new × Worn (grid_of self.old) (grid_of self.new) page cell state result }
-        ensures unsound { (GridSound self.old → ⊥) → (is_err result ≡ true) × Unchanged (grid_of self.old) (grid_of self.new) }
-        ensures refused { (GridSound self.old → ⊥) → MatchResult result (λ _. ⊥) (GridRefuses self.old) }
+        ensures called { Called (GridSound self.old) (GridSound self.new) (GridRefuses self.old) (Worn (grid_of self.old) (grid_of self.new) page cell state result) (Unchanged (grid_of self.old) (grid_of self.new)) result }
         ensures lender { self.new.bytes.ghost_name ≡ self.old.bytes.ghost_name }
         ensures bytes { MatchResult result (λ _. self.new.bytes.now ≡ slice_set self.old.bytes.now (page * self.old.breadth + cell) state) (λ _. self.new.bytes.now ≡ self.old.bytes.now) }
     {

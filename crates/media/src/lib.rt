@@ -5,3 +5,4 @@ pub mod checks;
 pub mod grid;
 pub mod medium;
 pub mod packed;
+mod state;

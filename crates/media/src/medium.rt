@@ -1,8 +1,8 @@
 // What every medium offers.
-ghost use Rattle.std.specs.Prelude.{◌≡◌, ℕ, true, is_err, IfErr, MatchResult};
+ghost use Rattle.std.specs.Prelude.{◌≡◌, ℕ, IfErr, MatchResult};
 ghost use Rattle.words.specs.declared.fault.Fault.{Fault};
 ghost use Rattle.media_laws.specs.Model.{MediumModel, LawfulMedium, Unchanged};
-ghost use Rattle.media.specs.Promises.{Fetched, Put, Worn};
+ghost use Rattle.media.specs.Promises.{Called, Fetched, Put, Worn};
 
 use words::fault::Fault;
 
@@ -20,9 +20,6 @@ pub trait Medium {
     // the name of what the medium is lent, which every call gives back
     ghost lender: { Self → ℕ };
 
-    // what an implementation shows
-    ghost lawful: { (m : Self) → sound m → LawfulMedium (model m) };
-
     /// Refuses a medium that is not sound.
     fn check(&self) -> Result<(), Fault>
         ensures sound { MatchResult result (λ _. sound self.now) (λ _. sound self.now → ⊥) }
@@ -38,22 +35,19 @@ pub trait Medium {
 
     /// Gives a page's cells and marks; a blank cell is 0 with the mark 1.
     fn fetch(&mut self, page: usize, cells: &mut [u8], marks: &mut [u8]) -> Result<(), Fault>
-        ensures sound { sound self.old → sound self.new × Fetched (model self.old) (model self.new) page cells.old marks.old cells.new marks.new result }
-        ensures unsound { (sound self.old → ⊥) → (is_err result ≡ true) × Unchanged (model self.old) (model self.new) × (cells.new ≡ cells.old) × (marks.new ≡ marks.old) }
-        ensures refused { (sound self.old → ⊥) → MatchResult result (λ _. ⊥) (refuses self.old) }
+        ensures called { Called (sound self.old) (sound self.new) (refuses self.old) (Fetched (model self.old) (model self.new) page cells.old marks.old cells.new marks.new result) (Unchanged (model self.old) (model self.new) × (cells.new ≡ cells.old) × (marks.new ≡ marks.old)) result }
         ensures lender { lender self.new ≡ lender self.old };
 
     /// Writes a page's cells; blank cells stay blank.
     fn put(&mut self, page: usize, cells: &[u8]) -> Result<(), Fault>
-        ensures sound { sound self.old → sound self.new × Put (model self.old) (model self.new) page cells.now result }
-        ensures unsound { (sound self.old → ⊥) → (is_err result ≡ true) × Unchanged (model self.old) (model self.new) }
-        ensures refused { (sound self.old → ⊥) → MatchResult result (λ _. ⊥) (refuses self.old) }
+        ensures called { Called (sound self.old) (sound self.new) (refuses self.old) (Put (model self.old) (model self.new) page cells.now result) (Unchanged (model self.old) (model self.new)) result }
         ensures lender { lender self.new ≡ lender self.old };
 
     /// Sets one cell to a state: 0, 1, or 2 for blank.
+    // A number and no enum, since a call may name a state that there is not, and is then refused by 18.
     fn wear(&mut self, page: usize, cell: usize, state: u8) -> Result<(), Fault>
-        ensures sound { sound self.old → sound self.new × Worn (model self.old) (model self.new) page cell state result }
-        ensures unsound { (sound self.old → ⊥) → (is_err result ≡ true) × Unchanged (model self.old) (model self.new) }
-        ensures refused { (sound self.old → ⊥) → MatchResult result (λ _. ⊥) (refuses self.old) }
+        ensures called { Called (sound self.old) (sound self.new) (refuses self.old) (Worn (model self.old) (model self.new) page cell state result) (Unchanged (model self.old) (model self.new)) result }
         ensures lender { lender self.new ≡ lender self.old };
+
+    ghost lawful: { (m : Self) → sound m → LawfulMedium (model m) };
 }

@@ -1,14 +1,16 @@
 // Packed cells: two bits a cell, its value and its mark.
-ghost use Rattle.std.specs.Prelude.{◌≡◌, ◌+◌, ◌-◌, ◌*◌, ◌/◌, ◌%◌, ◌^◌, ◌<◌, ◌≤◌, true, map, length, is_err, if◌then◌else◌, MatchResult, bit_and, bit_or, nat_eq};
+ghost use Rattle.std.specs.Prelude.{◌≡◌, ◌+◌, ◌-◌, ◌*◌, ◌/◌, ◌%◌, ◌^◌, ◌<◌, ◌≤◌, map, length, if◌then◌else◌, MatchResult, bit_and, bit_or, nat_eq};
 ghost use Rattle.std.specs.List.{range_with_len, AllByRecursion};
 ghost use Rattle.media_laws.specs.Model.{value_of, mark_of, Unchanged};
 ghost use Rattle.media_laws.specs.Packed.{row_bytes, first_value, first_mark, bit_of, cell_of, cell_at, put_bit, BitSet, BitsPut, BitsWorn};
 ghost use Rattle.media_laws.proofs.Packs.{packed_lawful};
 ghost use Rattle.media.specs.Lent.{packed_of, PackedSound, PackedRefuses};
-ghost use Rattle.media.specs.Promises.{Fetched, Put, Worn};
+ghost use Rattle.media.specs.States.{number};
+ghost use Rattle.media.specs.Promises.{Called, Fetched, Put, Worn};
 
 use crate::checks::{check_cell, check_fetch, check_page, check_put, in_range};
 use crate::medium::Medium;
+use crate::state::State;
 use words::fault::{Fault, Kind, Layer};
 
 /// Two bits a cell, page after page: a row of value bits and then a row of mark bits, each in whole bytes, the first cell most significant.
@@ -18,6 +20,27 @@ pub struct Packed<'a> {
     pub bytes: &'a mut [u8],
     pub pages: usize,
     pub breadth: usize,
+}
+
+// Where the two bits of a cell stand.
+#[derive(Clone, Copy)]
+struct Place {
+    value: usize,
+    mark: usize,
+}
+
+impl Place {
+    // Where those of a cell further on in the page do.
+    fn further(self, cells: usize) -> Place
+        requires { (self.value + cells < 2 ^ 64) × (self.mark + cells < 2 ^ 64) }
+        ensures value { result.value ≡ self.value + cells }
+        ensures mark { result.mark ≡ self.mark + cells }
+    {
+        Place {
+            value: self.value + cells,
+            mark: self.mark + cells,
+        }
+    }
 }
 
 fn weight(at: usize) -> u8
@@ -50,59 +73,63 @@ fn set_bit(bytes: &mut [u8], at: usize, bit: u8)
     bytes[at / 8] = with_bit(bytes[at / 8], weight(at), bit);
 }
 
-// A cell as it is fetched: under a mark its value is not shown.
-fn shown(value: u8, mark: u8) -> u8
-    requires { value < 2 }
-    ensures { result ≡ value_of (cell_of value mark) }
+// The state of a cell; under a mark its value is ignored.
+fn state(bytes: &[u8], place: Place) -> State
+    requires { (place.value < 8 * length bytes.now) × (place.mark < 8 * length bytes.now) }
+    ensures { number result ≡ cell_of (bit_of bytes.now place.value) (bit_of bytes.now place.mark) }
 {
-    if mark == 1 { 0 } else { value }
+    if bit(bytes, place.mark) == 1 {
+        State::Blank
+    } else {
+        State::from(bit(bytes, place.value))
+    }
 }
 
-fn show(bytes: &[u8], first_value: usize, first_mark: usize, cells: &mut [u8], marks: &mut [u8])
-    requires values { first_value + length cells.old ≤ 8 * length bytes.now }
-    requires marks { first_mark + length cells.old ≤ 8 * length bytes.now }
+fn show(bytes: &[u8], first: Place, cells: &mut [u8], marks: &mut [u8])
+    requires values { first.value + length cells.old ≤ 8 * length bytes.now }
+    requires marks { first.mark + length cells.old ≤ 8 * length bytes.now }
     requires lengths { (length marks.old ≡ length cells.old) × (length bytes.now < 2 ^ 60) }
-    ensures cells { cells.new ≡ map (λ i. value_of (cell_at bytes.now first_value first_mark i)) (range_with_len 0 (length cells.old)) }
-    ensures marks { marks.new ≡ map (λ i. mark_of (cell_at bytes.now first_value first_mark i)) (range_with_len 0 (length cells.old)) }
+    ensures cells { cells.new ≡ map (λ i. value_of (cell_at bytes.now first.value first.mark i)) (range_with_len 0 (length cells.old)) }
+    ensures marks { marks.new ≡ map (λ i. mark_of (cell_at bytes.now first.value first.mark i)) (range_with_len 0 (length cells.old)) }
 {
-    for i in 0..cells.len() {
-        let value = bit(bytes, first_value + i);
-        let mark = bit(bytes, first_mark + i);
-        cells[i] = shown(value, mark);
-        marks[i] = mark;
+    for (i, cell) in cells.iter_mut().enumerate() {
+        let state = state(bytes, first.further(i));
+        *cell = state.value();
+        marks[i] = state.mark();
     }
 }
 
 // Puts a value to a cell that is not blank.
-fn put_cell(bytes: &mut [u8], value: usize, mark: usize, cell: u8)
-    requires { (value < 8 * length bytes.old) × ((mark < 8 * length bytes.old) × (cell < 2)) }
-    ensures { BitSet bytes.old bytes.new value (put_bit bytes.old value mark cell) }
+fn put_cell(bytes: &mut [u8], place: Place, cell: u8)
+    requires { (place.value < 8 * length bytes.old) × ((place.mark < 8 * length bytes.old) × (cell < 2)) }
+    ensures { BitSet bytes.old bytes.new place.value (put_bit bytes.old place.value place.mark cell) }
 {
-    if bit(bytes, mark) == 0 {
-        set_bit(bytes, value, cell);
+    if bit(bytes, place.mark) == 0 {
+        set_bit(bytes, place.value, cell);
     }
 }
 
-fn store(bytes: &mut [u8], first_value: usize, first_mark: usize, cells: &[u8])
-    requires apart { first_value + length cells.now ≤ first_mark }
-    requires within { (first_mark + length cells.now ≤ 8 * length bytes.old) × (length bytes.old < 2 ^ 60) }
+#[tactic(auto, using(media_laws::proofs::Packs::put_more, media_laws::proofs::Packs::put_none))]
+fn store(bytes: &mut [u8], first: Place, cells: &[u8])
+    requires apart { first.value + length cells.now ≤ first.mark }
+    requires within { (first.mark + length cells.now ≤ 8 * length bytes.old) × (length bytes.old < 2 ^ 60) }
     requires cells { AllByRecursion (λ v. v < 2) cells.now }
-    ensures { BitsPut bytes.old bytes.new first_value first_mark cells.now (length cells.now) }
+    ensures { BitsPut bytes.old bytes.new first.value first.mark cells.now (length cells.now) }
 {
     for (i, cell) in cells.iter().enumerate() {
-        put_cell(bytes, first_value + i, first_mark + i, *cell);
+        put_cell(bytes, first.further(i), *cell);
     }
 }
 
-fn wear_bits(bytes: &mut [u8], value: usize, mark: usize, state: u8)
-    requires { (value < mark) × ((mark < 8 * length bytes.old) × (state ≤ 2)) }
-    ensures { BitsWorn bytes.old bytes.new value mark state }
+fn wear_bits(bytes: &mut [u8], place: Place, state: State)
+    requires { (place.value < place.mark) × (place.mark < 8 * length bytes.old) }
+    ensures { BitsWorn bytes.old bytes.new place.value place.mark (number state) }
 {
-    if state == 2 {
-        set_bit(bytes, mark, 1);
+    if state == State::Blank {
+        set_bit(bytes, place.mark, 1);
     } else {
-        set_bit(bytes, value, state);
-        set_bit(bytes, mark, 0);
+        set_bit(bytes, place.value, state.value());
+        set_bit(bytes, place.mark, 0);
     }
 }
 
@@ -114,31 +141,27 @@ fn row_bytes(breadth: usize) -> usize
     breadth.div_ceil(8)
 }
 
-// Where a page's value bits begin.
-fn first_value(breadth: usize, page: usize) -> usize
-    requires { (breadth ≤ 4096) × (page < 65536) }
-    ensures { result ≡ first_value breadth page }
-{
-    8 * (page * (2 * row_bytes(breadth)))
-}
-
-// Where its mark bits do.
-fn first_mark(breadth: usize, page: usize) -> usize
-    requires { (breadth ≤ 4096) × (page < 65536) }
-    ensures { result ≡ first_mark breadth page }
-{
-    first_value(breadth, page) + 8 * row_bytes(breadth)
-}
-
 impl Packed<'_> {
+    // Where the bits of a page's first cell stand.
+    fn first(&self, page: usize) -> Place
+        requires { (self.now.breadth ≤ 4096) × (page < 65536) }
+        ensures value { result.value ≡ first_value self.now.breadth page }
+        ensures mark { result.mark ≡ first_mark self.now.breadth page }
+    {
+        let row = row_bytes(self.breadth);
+        let value = 8 * (page * (2 * row));
+        Place {
+            value,
+            mark: value + 8 * row,
+        }
+    }
+
     fn show_page(&self, page: usize, cells: &mut [u8], marks: &mut [u8])
         requires { (PackedSound self.now) × ((page < self.now.pages) × ((length cells.old ≡ self.now.breadth) × (length marks.old ≡ self.now.breadth))) }
         ensures cells { cells.new ≡ map value_of ((packed_of self.now).page page) }
         ensures marks { marks.new ≡ map mark_of ((packed_of self.now).page page) }
     {
-        let value = first_value(self.breadth, page);
-        let mark = first_mark(self.breadth, page);
-        show(self.bytes, value, mark, cells, marks);
+        show(self.bytes, self.first(page), cells, marks);
     }
 }
 
@@ -171,9 +194,7 @@ impl Medium for Packed<'_> {
     }
 
     fn fetch(&mut self, page: usize, cells: &mut [u8], marks: &mut [u8]) -> Result<(), Fault>
-        ensures sound { PackedSound self.old → PackedSound self.new × Fetched (packed_of self.old) (packed_of self.new) page cells.old marks.old cells.new marks.new result }
-        ensures unsound { (PackedSound self.old → ⊥) → (is_err result ≡ true) × Unchanged (packed_of self.old) (packed_of self.new) × (cells.new ≡ cells.old) × (marks.new ≡ marks.old) }
-        ensures refused { (PackedSound self.old → ⊥) → MatchResult result (λ _. ⊥) (PackedRefuses self.old) }
+        ensures called { Called (PackedSound self.old) (PackedSound self.new) (PackedRefuses self.old) (Fetched (packed_of self.old) (packed_of self.new) page cells.old marks.old cells.new marks.new result) (Unchanged (packed_of self.old) (packed_of self.new) × (cells.new ≡ cells.old) × (marks.new ≡ marks.old)) result }
         ensures lender { self.new.bytes.ghost_name ≡ self.old.bytes.ghost_name }
         ensures bytes { self.new.bytes.now ≡ self.old.bytes.now }
     {
@@ -185,34 +206,28 @@ impl Medium for Packed<'_> {
     }
 
     fn put(&mut self, page: usize, cells: &[u8]) -> Result<(), Fault>
-        ensures sound { PackedSound self.old → PackedSound self.new × Put (packed_of self.old) (packed_of self.new) page cells.now result }
-        ensures unsound { (PackedSound self.old → ⊥) → (is_err result ≡ true) × Unchanged (packed_of self.old) (packed_of self.new) }
-        ensures refused { (PackedSound self.old → ⊥) → MatchResult result (λ _. ⊥) (PackedRefuses self.old) }
+        ensures called { Called (PackedSound self.old) (PackedSound self.new) (PackedRefuses self.old) (Put (packed_of self.old) (packed_of self.new) page cells.now result) (Unchanged (packed_of self.old) (packed_of self.new)) result }
         ensures lender { self.new.bytes.ghost_name ≡ self.old.bytes.ghost_name }
         ensures bytes { MatchResult result (λ _. BitsPut self.old.bytes.now self.new.bytes.now (first_value self.old.breadth page) (first_mark self.old.breadth page) cells.now self.old.breadth) (λ _. self.new.bytes.now ≡ self.old.bytes.now) }
     {
         self.check()?;
         check_page(page, self.pages)?;
         check_put(cells, self.breadth)?;
-        let value = first_value(self.breadth, page);
-        let mark = first_mark(self.breadth, page);
-        store(self.bytes, value, mark, cells);
+        let first = self.first(page);
+        store(self.bytes, first, cells);
         Ok(())
     }
 
     fn wear(&mut self, page: usize, cell: usize, state: u8) -> Result<(), Fault>
-        ensures sound { PackedSound self.old → PackedSound self.new × Worn (packed_of self.old) (packed_of self.new) page cell state result }
-        ensures unsound { (PackedSound self.old → ⊥) → (is_err result ≡ true) × Unchanged (packed_of self.old) (packed_of self.new) }
-        ensures refused { (PackedSound self.old → ⊥) → MatchResult result (λ _. ⊥) (PackedRefuses self.old) }
+        ensures called { Called (PackedSound self.old) (PackedSound self.new) (PackedRefuses self.old) (Worn (packed_of self.old) (packed_of self.new) page cell state result) (Unchanged (packed_of self.old) (packed_of self.new)) result }
         ensures lender { self.new.bytes.ghost_name ≡ self.old.bytes.ghost_name }
         ensures bytes { MatchResult result (λ _. BitsWorn self.old.bytes.now self.new.bytes.now (first_value self.old.breadth page + cell) (first_mark self.old.breadth page + cell) state) (λ _. self.new.bytes.now ≡ self.old.bytes.now) }
     {
         self.check()?;
         check_page(page, self.pages)?;
         check_cell(cell, self.breadth, state)?;
-        let value = first_value(self.breadth, page) + cell;
-        let mark = first_mark(self.breadth, page) + cell;
-        wear_bits(self.bytes, value, mark, state);
+        let place = self.first(page).further(cell);
+        wear_bits(self.bytes, place, State::from(state));
         Ok(())
     }
 }

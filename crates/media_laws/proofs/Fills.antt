@@ -1,15 +1,10 @@
 -- A row that is filled from another, place by place. Assumes nothing.
-use Rattle.std.proofs.Common.{◌≡◌, ℕ, zero, suc, ◌+◌, ◌<◌, ◌≤◌, List, [], ◌∷◌, ◌++◌, map, length, get_or, take, set, sym, refl, ap, ◌∙◌, subst, ap₂, le_of_suc-le-suc, not-suc-le-zero, add-one, take_all}
+use Rattle.std.proofs.Common.{◌≡◌, ℕ, zero, suc, ◌+◌, ◌<◌, ◌≤◌, List, [], ◌∷◌, map, length, get_or, take, set, sym, refl, ap, ◌∙◌, subst, le_of_suc-le-suc, not-suc-le-zero, add-one, take_all}
 use Rattle.std.proofs.lemmas.List.Edits.{fill_by_more}
-use Rattle.std.proofs.lemmas.List.{take_more_set, map_more}
 use Rattle.media_laws.specs.Grid.{put_byte, put_bytes}
 
-module _ (f : ℕ → ℕ) (xs ys : List ℕ) where
-  pub filled_more : (i y : ℕ) → i < length xs → i < length ys → take i ys ≡ map f (take i xs) → y ≡ f (get_or xs i 0) → take (i + 1) (set ys i y) ≡ map f (take (i + 1) xs)
-  filled_more i y lx ly e is = take_more_set ys i y ly ∙ ap₂ (λ front last. front ++ last ∷ []) e is ∙ sym (map_more f xs i 0 lx)
-
-  pub filled_all : (i : ℕ) → length xs ≤ i → length ys ≤ i → take i ys ≡ map f (take i xs) → ys ≡ map f xs
-  filled_all i lx ly e = sym (take_all i ys ly) ∙ e ∙ ap (map f) (take_all i xs lx)
+pub filled_all : (f : ℕ → ℕ) (xs ys : List ℕ) (i : ℕ) → length xs ≤ i → length ys ≤ i → take i ys ≡ map f (take i xs) → ys ≡ map f xs
+filled_all f xs ys i lx ly e = sym (take_all i ys ly) ∙ e ∙ ap (map f) (take_all i xs lx)
 
 -- one more place of a row that is filled by a function of the place
 pub placed_more : (f : ℕ → ℕ) (xs : List ℕ) (i y : ℕ) → i < length xs → ((k : ℕ) → k < i → get_or xs k 0 ≡ f k) → y ≡ f i → (k : ℕ) → k < i + 1 → get_or (set xs i y) k 0 ≡ f k
@@ -29,7 +24,3 @@ put_suc (b ∷ bytes) (v ∷ cells) (suc i) lb lc =
 -- one more cell is put
 pub put_more : (bytes cells : List ℕ) (i : ℕ) → i < length bytes → i < length cells → set (put_bytes bytes (take i cells)) i (put_byte (get_or (put_bytes bytes (take i cells)) i 0) (get_or cells i 0)) ≡ put_bytes bytes (take (i + 1) cells)
 put_more bytes cells i lb lc = put_suc bytes cells i lb lc ∙ ap (λ n. put_bytes bytes (take n cells)) (sym (add-one i))
-
-pub map_map : (f g : ℕ → ℕ) (xs : List ℕ) → map (λ x. f (g x)) xs ≡ map f (map g xs)
-map_map f g [] = refl
-map_map f g (x ∷ xs) = ap (λ rest. f (g x) ∷ rest) (map_map f g xs)

@@ -6,7 +6,7 @@ use Rattle.std.proofs.lemmas.List.FromFn.{length-map-range_with_len, get_or-map-
 use Rattle.std.proofs.lemmas.List.{length-set, get_or-set_same, get_or-set_other}
 use Rattle.std.proofs.lemmas.Bool.{cases_eq, cases_order, ne_eqb}
 use Rattle.std.proofs.lemmas.Bool.Decides.{nat_tests}
-use Rattle.media_laws.specs.Model.{LawfulMedium, Changed, mark_of, put_to, stored}
+use Rattle.media_laws.specs.Model.{LawfulMedium, Changed, put_to, stored}
 use Rattle.media_laws.specs.Packed.{packed, PackedFits, row_bytes, first_value, first_mark, bit_of, cell_of, cell_at, put_bit, BitSet, BitsPut, BitsWorn}
 use Rattle.media_laws.proofs.Pages.{page_end}
 
@@ -26,9 +26,6 @@ packed_lawful bytes pages breadth h =
       few_cells = h.1.1;
       states = λ p l. (length-map-range_with_len (cell_at bytes (first_value breadth p) (first_mark breadth p)) 0 breadth, all_cells bytes (first_value breadth p) (first_mark breadth p) (range_with_len 0 breadth));
     }
-
-pub mark_shown : (value mark : ℕ) → value < 2 → mark < 2 → mark_of (cell_of value mark) ≡ mark
-mark_shown value mark lv lm = grind (arith, nat_tests)
 
 -- a page's bits stand before its marks, which stand before the next page
 pub marks_behind : (breadth p : ℕ) → first_value breadth p + breadth ≤ first_mark breadth p

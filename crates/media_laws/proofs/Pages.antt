@@ -1,7 +1,7 @@
 -- Pages of one size, one after the other. Assumes nothing.
-use Rattle.std.proofs.Common.{◌≡◌, ℕ, zero, suc, ◌+◌, ◌-◌, ◌*◌, ◌<◌, ◌≤◌, List, [], ◌∷◌, length, get_or, take, drop, set, sym, refl, ap, ◌∙◌, ⊎_elim, le_of_suc-le-suc, not-suc-le-zero, mul-le-mul_right, suc-mul, arith}
+use Rattle.std.proofs.Common.{◌≡◌, ℕ, zero, suc, ◌+◌, ◌-◌, ◌*◌, ◌<◌, ◌≤◌, List, [], ◌∷◌, length, take, drop, set, sym, refl, ap, ◌∙◌, ⊎_elim, le_of_suc-le-suc, not-suc-le-zero, mul-le-mul_right, suc-mul, arith}
 use borrow.Rule.Slice.PartMut.{put_mid}
-use Rattle.std.proofs.lemmas.List.{length-append, length-take-le, length-drop, get_or-take, get_or-drop, drop-set-add, drop-set-lt, take-set-le}
+use Rattle.std.proofs.lemmas.List.{length-append, length-take-le, length-drop, drop-set-add, drop-set-lt, take-set-le}
 use Rattle.std.proofs.lemmas.Slice.{between_is, take-put_mid_below, drop-put_mid, between-put_mid}
 use Rattle.std.proofs.lemmas.Bool.{cases_order}
 
@@ -24,9 +24,6 @@ module _ (b : List ℕ) (size pages : ℕ) (whole : length b ≡ pages * size) w
 
   pub length_page : (p : ℕ) → p < pages → length (page_of b size p) ≡ size
   length_page p l = length-take-le size (drop (p * size) b) (omega (arith, length-drop (p * size) b, page_within p l))
-
-  pub get_or_page : (p i : ℕ) → i < size → get_or (page_of b size p) i 0 ≡ get_or b (p * size + i) 0
-  get_or_page p i l = get_or-take size (drop (p * size) b) i 0 l ∙ get_or-drop (p * size) b i 0
 
   -- a page is written over, and the others stay
   pub page_put : (new : List ℕ) (p : ℕ) → p < pages → length new ≡ size → page_of (put_mid (p * size) size b new) size p ≡ new

@@ -5,7 +5,6 @@ mod bits;
 mod checks;
 mod joins;
 pub mod memory;
-pub mod pages;
 mod patrols;
 mod reads;
 mod restores;

@@ -1,13 +1,15 @@
 -- The parts of a memory accept what it hands them. Assumes nothing.
-use Rattle.std.proofs.Common.{◌≡◌, ℕ, zero, suc, ◌-◌, ◌^◌, ◌<◌, ◌≤◌, Bool, true, false, cond, eqb, List, [], ◌∷◌, map, length, take, replicate, None, Ok, Err, count_by, Result, sym, refl, ap, ◌∙◌, subst, arith, lt-ltb}
+use Rattle.std.proofs.Common.{◌≡◌, ℕ, ◌/◌, ◌^◌, ◌<◌, ◌≤◌, Bool, true, false, cond, eqb, ltb, List, [], ◌∷◌, map, length, take, replicate, Some, None, Ok, Err, count_by, Result, sym, refl, ap, ◌∙◌, subst, subst₂, arith, lt-ltb}
 use Rattle.std.specs.List.{AllByRecursion}
 use Rattle.std.proofs.ByRecursion.{All-weaker}
 use Rattle.std.proofs.lemmas.List.{length-replicate, take-replicate}
 use Rattle.std.proofs.lemmas.Option.{MatchOption-at_none}
 use Rattle.std.proofs.lemmas.List.Sums.{sum_by-cons}
 use Rattle.words.specs.declared.fault.Fault.{Fault}
-use Rattle.words.specs.declared.fault.Layer.TheVariants.{Code, Medium}
+use Rattle.words.specs.declared.fault.Kind.TheVariants.{PageOutOfRange}
+use Rattle.words.specs.declared.fault.Layer.TheVariants.{Code, Medium, Memory}
 use Rattle.words.specs.Buffers.{either, refusal, values_below, written_to}
+use Rattle.words.specs.Faults.{fault}
 use Rattle.words.proofs.Passes.{none_from_fits}
 use Rattle.codes.specs.Model.{CodeModel, Lawful, Message}
 use Rattle.codes.specs.Promises.{Encoded}
@@ -16,6 +18,7 @@ use Rattle.media.specs.Promises.{Put, Fetched, page_refusal}
 use Rattle.memory_laws.specs.Calls.{Joins, blanks, payload_refusal, recording}
 use Rattle.memory_laws.specs.Payload.{carrying}
 use Rattle.memory_laws.proofs.Outcomes.{payload_passed}
+use Rattle.memory_laws.proofs.Payloads.{all_zeros}
 use Rattle.memory_laws.proofs.Steps.{carrying_message}
 
 pub page_passes : (m : MediumModel) (p : ℕ) → p < m.pages → page_refusal m p ≡ None
@@ -76,17 +79,23 @@ ok_not_err r x f a b = let z : ◌≡◌ {A = ℕ} 0 1 = cc in omega arith
 
 -- fresh work space
 pub fresh : (n : ℕ) → (length {A = ℕ} (replicate n 0) ≡ n) × AllByRecursion (λ b. b < 256) (replicate n 0)
-fresh n = (length-replicate n 0, all_fresh n)
-  where
-    all_fresh : (k : ℕ) → AllByRecursion (λ b. b < 256) (replicate k 0)
-    all_fresh zero = tt
-    all_fresh (suc k) = (omega arith, all_fresh k)
+fresh n = (length-replicate n 0, all_zeros (λ b. b < 256) n (omega arith))
 
 -- the front of a row of 4,096 zeros
-pub cleared : (n k : ℕ) → k ≡ n → n ≤ 4096 → take {A = ℕ} (k - 0) (replicate 4096 0) ≡ replicate n 0
-cleared n k e few =
-    let same : k - 0 ≡ n = omega arith in
-    ap (λ x. take {A = ℕ} x (replicate 4096 0)) same ∙ take-replicate n 4096 0 few
+cleared : (n k : ℕ) → k ≡ n → n ≤ 4096 → take {A = ℕ} k (replicate 4096 0) ≡ replicate n 0
+cleared n k e few = ap (λ x. take {A = ℕ} x (replicate 4096 0)) e ∙ take-replicate n 4096 0 few
+
+module _ (c : CodeModel) (lc : Lawful c) where
+  pub clear_message : (k : ℕ) → k ≡ c.message_len → take {A = ℕ} k (replicate 4096 0) ≡ replicate c.message_len 0
+  clear_message k e = cleared c.message_len k e (omega (arith, lc.message_within, lc.short))
+
+  pub clear_word : (k : ℕ) → k ≡ c.len → take {A = ℕ} k (replicate 4096 0) ≡ replicate c.len 0
+  clear_word k e = cleared c.len k e lc.short
+
+-- what a call's checks passed
+pub call_passed : (m : MediumModel) (c : CodeModel) (page pages bits : ℕ) (payload : List ℕ) → pages ≡ m.pages → bits ≡ c.message_len → either (cond (ltb page pages) None (Some (fault PageOutOfRange Medium page))) (refusal Memory (written_to (bits / 8) payload ∷ [])) ≡ None → payload_refusal m c page payload ≡ None
+call_passed m c page pages bits payload ep eb =
+    subst₂ (λ (n k : ℕ). either (cond (ltb page n) None (Some (fault PageOutOfRange Medium page))) (refusal Memory (written_to (k / 8) payload ∷ [])) ≡ None) ep eb
 
 -- the whole of a write: the code encodes, the medium puts and then fetches
 module _ (m m' m'' : MediumModel) (c : CodeModel) (lc : Lawful c) (j : Joins m c) (p : ℕ) (payload : List ℕ) (passed : payload_refusal m c p payload ≡ None) where

@@ -47,9 +47,9 @@ module _ (c : CodeModel) (lc : Lawful c) (m : MediumModel) (h : LawfulMedium m) 
   never : (f : Fault) → Unrestored m c p f → ⊥
   never f (inl o) = o.3 (carrying c.message_len payload) (carrying_message c payload j.bits pp.0, near)
   never f (inr o) =
-      let zero = spare_zero c.message_len payload pp.0 o.2 o.4 in
+      let zero = spare_zero c.message_len payload pp.0 o.2 o.4.spare in
       let is = only o.0 o.1 in
-      omega (arith, o.5, ap (λ u. get_or u o.2 0) is, zero)
+      omega (arith, o.4.set, ap (λ u. get_or u o.2 0) is, zero)
 
   pub read_gives : (m' : MediumModel) (buffer buffer' : List ℕ) (r : Result ℕ Fault) → length buffer ≡ page_bytes c.message_len → AllByRecursion (λ b. b < 256) buffer → Recalled m m' c p buffer buffer' r → (r ≡ Ok (page_harm m p (recording c payload))) × (buffer' ≡ payload)
   read_gives m' buffer buffer' r long bytes w = by r refl (MatchOption-at_none _ _ (payload_passes m c p buffer within (long, bytes)) w.1)

@@ -4,7 +4,6 @@ pub mod Gathering
 pub mod Lives
 pub mod Outcomes
 pub mod Payloads
-pub mod Refusing
 pub mod Restoring
 pub mod Spelling
 pub mod Steps

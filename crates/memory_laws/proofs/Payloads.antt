@@ -26,7 +26,7 @@ pub length_carrying : (k : ℕ) (payload : List ℕ) → 8 * length payload ≤ 
 length_carrying k payload h =
     length-append (bits_of payload) (replicate (k - 8 * length payload) 0) ∙ omega (arith, length_bits payload, length-replicate {A = ℕ} (k - 8 * length payload) 0)
 
-all_zeros : (P : ℕ → Type 0) (n : ℕ) → P 0 → AllByRecursion P (replicate n 0)
+pub all_zeros : (P : ℕ → Type 0) (n : ℕ) → P 0 → AllByRecursion P (replicate n 0)
 all_zeros P zero p = tt
 all_zeros P (suc n) p = (p, all_zeros P n p)
 

@@ -1,5 +1,5 @@
 -- A page is fetched, corrected and turned into a message. Assumes nothing.
-use Rattle.std.proofs.Common.{◌≡◌, ℕ, ◌*◌, ◌^◌, ◌<◌, ◌≤◌, List, [], ◌∷◌, map, length, get_or, replicate, None, Ok, Err, Result, sym, refl, ap, ◌∙◌, subst, subst₂, inr, arith}
+use Rattle.std.proofs.Common.{◌≡◌, ℕ, ◌^◌, ◌<◌, List, [], ◌∷◌, map, length, replicate, None, Ok, Err, Result, sym, refl, ap, ◌∙◌, subst, subst₂, inr, arith}
 use Rattle.std.specs.Result as results
 use Rattle.std.specs.List.{AllByRecursion}
 use Rattle.std.proofs.lemmas.List.{length-map}
@@ -18,7 +18,7 @@ use Rattle.media_laws.specs.Model.{MediumModel, LawfulMedium, value_of, mark_of,
 use Rattle.media.specs.Promises.{Fetched, Put, page_refusal}
 use Rattle.memory_laws.specs.Calls.{Joins, Restored, Recalled, Patrolled, word_of, page_harm, payload_refusal}
 use Rattle.memory_laws.specs.Calls as calls
-use Rattle.memory_laws.specs.Payload.{bytes_of, page_bytes, SpareClear}
+use Rattle.memory_laws.specs.Payload.{FirstSpare, SpareClear}
 use Rattle.memory_laws.proofs.Accepts.{fetch_accepts, put_accepts, unchanged_then_changed, fresh}
 
 value_small : (s : ℕ) → s < 3 → value_of s < 2
@@ -83,22 +83,12 @@ module _ (m : MediumModel) (c : CodeModel) (p : ℕ) (message word : List ℕ) (
   restored_clear clear =
       ((near_message, subst (λ (k : ℕ). SpareClear k message) is-message.0 clear), sym its-word, nearest.3 ∙ ap (page_harm m p) (sym nearest.2))
 
-  pub restored_spare : (f : Fault) → ((bit : ℕ) × (f ≡ fault SpareBitSet Memory bit) × (8 * page_bytes (length message) ≤ bit) × (get_or message bit 0 ≡ 1) × ((i : ℕ) → 8 * page_bytes (length message) ≤ i → i < bit → get_or message i 0 ≡ 0)) → Restored m c p message word (Err f)
+  pub restored_spare : (f : Fault) → ((bit : ℕ) × (f ≡ fault SpareBitSet Memory bit) × FirstSpare (length message) message bit) → Restored m c p message word (Err f)
   restored_spare f found =
-      let at = subst (λ (k : ℕ). (8 * page_bytes k ≤ found.0) × ((i : ℕ) → 8 * page_bytes k ≤ i → i < found.0 → get_or message i 0 ≡ 0)) is-message.0 (found.2, found.4) in
-      inr (message, near_message, found.0, ap (λ x. on_page x p) found.1, at.0, found.3, at.1)
+      inr (message, near_message, found.0, ap (λ x. on_page x p) found.1, subst (λ (k : ℕ). FirstSpare k message found.0) is-message.0 found.2)
 
 -- a call that restores its page, once its checks have passed
 module _ (m m' : MediumModel) (c : CodeModel) (p : ℕ) (same : Unchanged m m') (message word : List ℕ) where
-  pub read_gave : (payload payload' : List ℕ) (h : ℕ) → payload_refusal m c p payload ≡ None → Restored m c p message word (Ok h) → payload' ≡ bytes_of (page_bytes c.message_len) message → Recalled m m' c p payload payload' (Ok h)
-  read_gave payload payload' h passed got is = (same, rw passed (message, got.0, is, got.2 ∙ ap (page_harm m p) got.1))
-
-  pub read_failed : (payload : List ℕ) (f : Fault) → payload_refusal m c p payload ≡ None → Restored m c p message word (Err f) → Recalled m m' c p payload payload (Err (on_page f p))
-  read_failed payload f passed got = (same, rw passed (got, refl))
-
-  pub patrol_failed : (f : Fault) → page_refusal m p ≡ None → Restored m c p message word (Err f) → Patrolled m m' c p (Err (on_page f p))
-  patrol_failed f passed got = rw passed (got, same)
-
   pub patrol_put : (m'' : MediumModel) (h : ℕ) (r : Result (Unit {0}) Fault) → Lawful c → Joins m c → p < m.pages → page_refusal m p ≡ None → Restored m c p message word (Ok h) → Put m' m'' p word r → (r ≡ Ok tt) × Patrolled m m'' c p (Ok h)
   patrol_put m'' h r lc j l passed got w =
       let joins : Joins m' c = record { bits = j.bits; same_length = j.same_length ∙ sym same.breadth; some_byte = j.some_byte } in

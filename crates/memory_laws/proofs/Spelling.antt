@@ -1,9 +1,16 @@
 -- A message is spelled byte by byte. Assumes nothing.
-use Rattle.std.proofs.Common.{◌≡◌, ℕ, ◌+◌, ◌-◌, ◌*◌, ◌<◌, ◌≤◌, List, [], ◌∷◌, ◌++◌, length, get_or, take, drop, replicate, sym, refl, ap, ◌∙◌, ap₂, append_assoc, arith}
+use Rattle.std.proofs.Common.{◌≡◌, ℕ, ◌+◌, ◌-◌, ◌*◌, ◌/◌, ◌%◌, ◌<◌, ◌≤◌, List, [], ◌∷◌, ◌++◌, length, get_or, take, drop, replicate, sym, refl, ap, ◌∙◌, ap₂, append_assoc, arith}
 use borrow.Rule.Slice.PartMut.{put_mid}
 use Rattle.std.proofs.lemmas.List.{append-nil, take_more, take_at, drop_at, drop-replicate, length-take-le}
+use Rattle.words.specs.Bits as words
 use Rattle.memory_laws.specs.Payload.{bits_of_byte, bits_of, carrying}
 use Rattle.memory_laws.proofs.Payloads.{length_bits}
+
+-- the bits of a byte are its lowest eight
+pub bits_byte : (b : ℕ) → words.bits_of 8 b ≡ bits_of_byte b
+bits_byte b =
+    let last : b / 1 ≡ b = omega arith in
+    ap (λ x. b / 128 % 2 ∷ b / 64 % 2 ∷ b / 32 % 2 ∷ b / 16 % 2 ∷ b / 8 % 2 ∷ b / 4 % 2 ∷ b / 2 % 2 ∷ x % 2 ∷ []) last
 
 bits_append : (xs ys : List ℕ) → bits_of (xs ++ ys) ≡ bits_of xs ++ bits_of ys
 bits_append [] ys = refl

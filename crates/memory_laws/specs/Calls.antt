@@ -1,5 +1,5 @@
 -- What the calls of a memory answer: a code joined to a medium. Assumes nothing.
-use Rattle.std.specs.Prelude.{◌≡◌, ℕ, ◌*◌, ◌<◌, ◌≤◌, ◌⊎◌, List, [], ◌∷◌, map, Ok, Err, count_by, Option, Result, nat_eq, slice_index, slice_set}
+use Rattle.std.specs.Prelude.{◌≡◌, ℕ, ◌≤◌, ◌⊎◌, List, [], ◌∷◌, map, Ok, Err, count_by, Option, Result, nat_eq, slice_set}
 use Rattle.std.specs.Option as options
 use Rattle.std.specs.Result as results
 use Rattle.words.specs.declared.fault.Fault.{Fault}
@@ -11,7 +11,7 @@ use Rattle.words.specs.Harm.{harm}
 use Rattle.codes.specs.Model.{CodeModel, Near}
 use Rattle.media_laws.specs.Model.{MediumModel, value_of, mark_of, stored, Unchanged, Changed}
 use Rattle.media.specs.Promises.{page_refusal, cell_refusal}
-use Rattle.memory_laws.specs.Payload.{carrying, bytes_of, page_bytes, SpareClear}
+use Rattle.memory_laws.specs.Payload.{carrying, bytes_of, page_bytes, FirstSpare, SpareClear}
 
 -- the code has width 1 and the length of a page, and a page holds a byte
 pub record Joins (m : MediumModel) (c : CodeModel) : Type 0 where
@@ -61,8 +61,7 @@ Restores m c p u = Near c (word_of m p) (marks_of m p) u × SpareClear c.message
 abbrev pub Unrestored : MediumModel → CodeModel → ℕ → Fault → Type 0
 Unrestored m c p f =
     ((place : ℕ) × c.Blames (word_of m p) (marks_of m p) place × (f ≡ on_page (fault NoCodeword Code place) p) × ((u : List ℕ) → Near c (word_of m p) (marks_of m p) u → ⊥))
-    ⊎ ((u : List ℕ) × Near c (word_of m p) (marks_of m p) u × (bit : ℕ) × (f ≡ on_page (fault SpareBitSet Memory bit) p)
-    × (8 * page_bytes c.message_len ≤ bit) × (slice_index u bit ≡ 1) × ((i : ℕ) → 8 * page_bytes c.message_len ≤ i → i < bit → slice_index u i ≡ 0))
+    ⊎ ((u : List ℕ) × Near c (word_of m p) (marks_of m p) u × (bit : ℕ) × (f ≡ on_page (fault SpareBitSet Memory bit) p) × FirstSpare c.message_len u bit)
 
 -- a page is fetched and corrected: the message and its codeword, with the harm
 abbrev pub Restored : MediumModel → CodeModel → ℕ → List ℕ → List ℕ → Result ℕ Fault → Type 0

@@ -1,5 +1,5 @@
 -- A page's bytes as the bits of a message. Assumes nothing.
-use Rattle.std.specs.Prelude.{◌≡◌, ℕ, zero, suc, ◌+◌, ◌-◌, ◌*◌, ◌/◌, ◌%◌, List, [], ◌∷◌, ◌++◌, length, drop, replicate, slice_index}
+use Rattle.std.specs.Prelude.{◌≡◌, ℕ, zero, suc, ◌+◌, ◌-◌, ◌*◌, ◌/◌, ◌%◌, ◌<◌, ◌≤◌, List, [], ◌∷◌, ◌++◌, length, drop, replicate, slice_index}
 use Rattle.std.specs.List.{AllByRecursion}
 
 -- the bits of a byte, most significant first
@@ -31,3 +31,9 @@ page_bytes k = k / 8
 -- no spare bit of a message is set
 abbrev pub SpareClear : ℕ → List ℕ → Type 0
 SpareClear k u = AllByRecursion (λ b. b ≡ 0) (drop (8 * page_bytes k) u)
+
+-- the first spare bit of a message that is set
+pub record FirstSpare (k : ℕ) (u : List ℕ) (bit : ℕ) : Type 0 where
+  pub spare : 8 * page_bytes k ≤ bit
+  pub set : slice_index u bit ≡ 1
+  pub first : (i : ℕ) → 8 * page_bytes k ≤ i → i < bit → slice_index u i ≡ 0

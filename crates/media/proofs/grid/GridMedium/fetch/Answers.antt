@@ -1,22 +1,14 @@
 use Rattle.std.proofs.Common.{[], ◌∷◌, refl}
 use Rattle.words.specs.declared.fault.Layer.TheVariants.{Medium}
 use Rattle.words.specs.Buffers.{refusal, written_to}
-use Rattle.words.proofs.Passes.{fits_from_none}
 use Rattle.words.proofs.Rises.{checked_ok}
 use Rattle.media_laws.specs.Grid.{grid}
 use Rattle.media.specs.Promises.{page_refusal}
-use Rattle.media.proofs.Working.{worked, none_of_both, page_passed}
+use Rattle.media.proofs.Working.{worked, none_of_both}
 use Rattle.media.proofs.grid.GridMedium.fetch.Goals as goal
 
-pub show_page-requires : goal.show_page-requires
-show_page-requires c =
-    let self = c.args.self.now in
-    let page = page_passed c.args.page self.pages _ (checked_ok _ c.in_ok-check_page.ensures) in
-    let given = fits_from_none Medium (written_to self.breadth c.args.cells.now ∷ written_to self.breadth c.args.marks.now ∷ []) (checked_ok _ c.in_ok-check_fetch.ensures) in
-    (c.in_ok-check.ensures.sound, (page, (given.0.0, given.1.0.0)))
-
-pub returns : goal.returns
-returns c =
+pub returns-clause-called : goal.returns-clause-called
+returns-clause-called c =
     let self = c.args.self.now in
     let model = grid self.bytes.now self.pages self.breadth in
     let fits = c.in_ok-check.ensures.sound in
@@ -26,6 +18,4 @@ returns c =
       sound = λ _. (fits, (record { pages = refl; breadth = refl; states = λ q l. refl }, worked _ _ _ (none_of_both (page_refusal model c.args.page) (refusal Medium (written_to self.breadth c.args.cells.now ∷ written_to self.breadth c.args.marks.now ∷ [])) page-ok fetch-ok) (refl, c.show_page.ensures.cells, c.show_page.ensures.marks)));
       unsound = λ no. absurd (no fits);
       refused = λ no. absurd (no fits);
-      lender = refl;
-      bytes = refl;
     }

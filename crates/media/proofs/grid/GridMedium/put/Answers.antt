@@ -1,4 +1,4 @@
-use Rattle.std.proofs.Common.{◌≡◌, ℕ, ◌+◌, ◌-◌, ◌*◌, List, [], ◌∷◌, length, take, drop, Ok, sym, refl, ap, ◌∙◌, subst, ap₂, arith, rules}
+use Rattle.std.proofs.Common.{◌≡◌, ℕ, ◌+◌, ◌-◌, ◌*◌, List, [], ◌∷◌, length, take, drop, Ok, sym, refl, ap, ◌∙◌, subst, ap₂, arith}
 use borrow.Rule.Slice.PartMut.{put_mid}
 use Rattle.words.specs.declared.fault.Layer.TheVariants.{Medium}
 use Rattle.words.specs.Buffers.{refusal, values_below}
@@ -7,20 +7,12 @@ use Rattle.words.proofs.Rises.{checked_ok}
 use Rattle.media_laws.specs.Grid.{grid, GridFits, page_bytes, put_bytes}
 use Rattle.media.specs.Promises.{Put, page_refusal}
 use Rattle.media_laws.proofs.Grids.{grid_put, length_put}
-use Rattle.media_laws.proofs.Pages.{page_within, length_page, length_over}
+use Rattle.media_laws.proofs.Pages.{length_page, length_over}
 use Rattle.media.proofs.Working.{worked, none_of_both, page_passed}
 use Rattle.media.proofs.grid.GridMedium.put.Goals as goal
 
-pub slice_bounds-store-end : goal.slice_bounds-store-end
-slice_bounds-store-end c =
-    let self = c.args.self.now in
-    let fits = c.in_ok-check.ensures.sound in
-    let page = page_passed c.args.page self.pages _ (checked_ok _ c.in_ok-check_page.ensures) in
-    let within = page_within self.bytes.now self.breadth self.pages fits.2 c.args.page page in
-    search rules
-
-pub returns : goal.returns
-returns c =
+pub returns-clause-called : goal.returns-clause-called
+returns-clause-called c =
     let self = c.args.self.now in
     let bytes = self.bytes.now in
     let p = c.args.page in
@@ -41,6 +33,4 @@ returns c =
       sound = λ _. subst Good (sym after) ((fits.0, fits.1, length_over bytes n self.pages fits.2 (put_bytes (page_bytes bytes n p) cells) p page long), worked _ _ _ (none_of_both (page_refusal model p) (refusal Medium (values_below 2 n cells ∷ [])) page-ok put-ok) (refl, grid_put bytes self.pages n fits p page cells given.0.1));
       unsound = λ no. absurd (no fits);
       refused = λ no. absurd (no fits);
-      lender = refl;
-      bytes = after;
     }

@@ -1,23 +1,14 @@
-use Rattle.std.proofs.Common.{◌+◌, ◌*◌, refl, ◌∙◌, arith}
+use Rattle.std.proofs.Common.{◌+◌, ◌*◌, refl, ◌∙◌}
 use Rattle.std.proofs.lemmas.List.{length-set}
 use Rattle.words.proofs.Rises.{checked_ok}
 use Rattle.media_laws.specs.Grid.{grid}
 use Rattle.media.specs.Promises.{page_refusal, cell_refusal}
 use Rattle.media_laws.proofs.Grids.{grid_wear}
-use Rattle.media_laws.proofs.Pages.{page_within}
 use Rattle.media.proofs.Working.{worked, none_of_both, page_passed, cell_passed}
 use Rattle.media.proofs.grid.GridMedium.wear.Goals as goal
 
-pub bounds-self-page : goal.bounds-self-page
-bounds-self-page c =
-    let self = c.args.self.now in
-    let fits = c.in_ok-check.ensures.sound in
-    let page = page_passed c.args.page self.pages _ (checked_ok _ c.in_ok-check_page.ensures) in
-    let cell = cell_passed c.args.cell self.breadth c.args.state _ (checked_ok _ c.in_ok-check_cell.ensures) in
-    omega (arith, page_within self.bytes.now self.breadth self.pages fits.2 c.args.page page, cell.0)
-
-pub returns : goal.returns
-returns c =
+pub returns-clause-called : goal.returns-clause-called
+returns-clause-called c =
     let self = c.args.self.now in
     let bytes = self.bytes.now in
     let p = c.args.page in
@@ -31,6 +22,4 @@ returns c =
       sound = λ _. ((fits.0, fits.1, length-set bytes (p * self.breadth + c.args.cell) c.args.state ∙ fits.2), worked _ _ _ (none_of_both (page_refusal model p) (cell_refusal model c.args.cell c.args.state) page-ok cell-ok) (refl, grid_wear bytes self.pages self.breadth fits p page c.args.cell c.args.state cell.0 cell.1));
       unsound = λ no. absurd (no fits);
       refused = λ no. absurd (no fits);
-      lender = refl;
-      bytes = refl;
     }

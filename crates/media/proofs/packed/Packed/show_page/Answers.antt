@@ -1,23 +1,9 @@
-use Rattle.std.proofs.Common.{◌≡◌, ℕ, map, length, sym, ap, ◌∙◌, arith}
+use Rattle.std.proofs.Common.{◌≡◌, ℕ, map, length, sym, ap, ◌∙◌}
+use mathlib.Core.List.{map-map}
 use Rattle.std.specs.List.{range_with_len}
 use Rattle.media_laws.specs.Model.{value_of, mark_of}
 use Rattle.media_laws.specs.Packed.{first_value, first_mark, cell_at}
-use Rattle.media_laws.proofs.Fills.{map_map}
-use Rattle.media_laws.proofs.Packs.{marks_behind, marks_within, few_bytes}
 use Rattle.media.proofs.packed.Packed.show_page.Goals as goal
-
-pub show-requires : goal.show-requires
-show-requires c =
-    let self = c.args.self.now in
-    let n = self.breadth in
-    let p = c.args.page in
-    let behind = marks_behind n p in
-    let within = marks_within self.bytes.now self.pages n c.requires.0 p c.requires.1.0 in
-    record {
-      values = omega (arith, c.first_value-value.ensures, c.requires.1.1.0);
-      marks = omega (arith, c.first_mark-mark.ensures, c.requires.1.1.0);
-      lengths = (c.requires.1.1.1 ∙ sym c.requires.1.1.0, few_bytes self.bytes.now self.pages n c.requires.0);
-    }
 
 pub returns : goal.returns
 returns c =
@@ -25,5 +11,5 @@ returns c =
     let n = self.breadth in
     let bytes = self.bytes.now in
     let p = c.args.page in
-    let laid : (f : ℕ → ℕ) → map (λ i. f (cell_at bytes c.first_value-value.result c.first_mark-mark.result i)) (range_with_len 0 (length c.args.cells.now)) ≡ map f (map (cell_at bytes (first_value n p) (first_mark n p)) (range_with_len 0 n)) = λ f. ap (λ v. map (λ i. f (cell_at bytes v c.first_mark-mark.result i)) (range_with_len 0 (length c.args.cells.now))) c.first_value-value.ensures ∙ ap (λ m. map (λ i. f (cell_at bytes (first_value n p) m i)) (range_with_len 0 (length c.args.cells.now))) c.first_mark-mark.ensures ∙ ap (λ k. map (λ i. f (cell_at bytes (first_value n p) (first_mark n p) i)) (range_with_len 0 k)) c.requires.1.1.0 ∙ map_map f (cell_at bytes (first_value n p) (first_mark n p)) (range_with_len 0 n) in
+    let laid : (f : ℕ → ℕ) → map (λ i. f (cell_at bytes c.first.result.value c.first.result.mark i)) (range_with_len 0 (length c.args.cells.now)) ≡ map f (map (cell_at bytes (first_value n p) (first_mark n p)) (range_with_len 0 n)) = λ f. ap (λ v. map (λ i. f (cell_at bytes v c.first.result.mark i)) (range_with_len 0 (length c.args.cells.now))) c.first.ensures.value ∙ ap (λ m. map (λ i. f (cell_at bytes (first_value n p) m i)) (range_with_len 0 (length c.args.cells.now))) c.first.ensures.mark ∙ ap (λ k. map (λ i. f (cell_at bytes (first_value n p) (first_mark n p) i)) (range_with_len 0 k)) c.requires.1.1.0 ∙ sym (map-map f (cell_at bytes (first_value n p) (first_mark n p)) (range_with_len 0 n)) in
     record { cells = c.show.ensures.cells ∙ laid value_of; marks = c.show.ensures.marks ∙ laid mark_of }

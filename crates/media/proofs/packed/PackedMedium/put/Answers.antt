@@ -21,13 +21,13 @@ store-requires c =
     let within = marks_within self.bytes.now self.pages n fits p page in
     let long = given.0.0 in
     record {
-      apart = omega (arith, c.first_value-value.ensures, c.first_mark-mark.ensures);
-      within = (omega (arith, c.first_mark-mark.ensures), few_bytes self.bytes.now self.pages n fits);
+      apart = omega (arith, c.first-first.ensures.value, c.first-first.ensures.mark);
+      within = (omega (arith, c.first-first.ensures.mark), few_bytes self.bytes.now self.pages n fits);
       cells = given.0.1;
     }
 
-pub returns : goal.returns
-returns c =
+pub returns-clause-called : goal.returns-clause-called
+returns-clause-called c =
     let self = c.args.self.now in
     let bytes = self.bytes.now in
     let bytes' = c.store.new.bytes in
@@ -40,12 +40,10 @@ returns c =
     let put-ok = checked_ok _ c.in_ok-check_put.ensures in
     let given = fits_from_none Medium (values_below 2 n cells ∷ []) put-ok in
     let long = given.0.0 in
-    let at-page = subst₂ (λ (v m : ℕ). BitsPut bytes bytes' v m cells (length cells)) c.first_value-value.ensures c.first_mark-mark.ensures c.store.ensures in
+    let at-page = subst₂ (λ (v m : ℕ). BitsPut bytes bytes' v m cells (length cells)) c.first-first.ensures.value c.first-first.ensures.mark c.store.ensures in
     let put : BitsPut bytes bytes' (first_value n p) (first_mark n p) cells n = subst (λ (k : ℕ). BitsPut bytes bytes' (first_value n p) (first_mark n p) cells k) long at-page in
     record {
       sound = λ _. ((fits.0, fits.1, put.long ∙ fits.2), worked _ _ _ (none_of_both (page_refusal model p) (refusal Medium (values_below 2 n cells ∷ [])) page-ok put-ok) (refl, packed_put bytes bytes' self.pages n p cells long put));
       unsound = λ no. absurd (no fits);
       refused = λ no. absurd (no fits);
-      lender = refl;
-      bytes = put;
     }
