@@ -3,7 +3,7 @@ ghost use Rattle.std.specs.Prelude.{◌≡◌, ◌+◌, ◌-◌, ◌≤◌, leng
 ghost use Rattle.reed_solomon.specs.Finding.{Received, Guessed, Found, Replaced};
 
 use crate::interpolation::through;
-use crate::key_equation::locate;
+use crate::key_equation::KeyEquation;
 use codes::checks::check_near;
 use fields::field::Field;
 use words::fault::{Fault, Kind, Layer};
@@ -58,7 +58,14 @@ impl<F: Field> Damaged<'_, F> {
         }
         let mut places = [0; 256];
         let skip = &mut places[..n];
-        locate(self.field, self.word, self.marks, found, product, skip);
+        let equation = KeyEquation {
+            field: self.field,
+            word: self.word,
+            marks: self.marks,
+            g: found,
+            p: product,
+        };
+        equation.locate(skip);
         self.guess(skip, found, product)
     }
 }
