@@ -93,40 +93,6 @@ fn advance<F: Field>(field: &F, x: usize, t: u8, first: &mut Pair, second: &mut 
     false
 }
 
-/// Solves the key equation over the readable places outside the choice that p vanishes at. Answers whether the first of the two pairs
-/// has the smaller bound.
-fn solve<F: Field>(
-    field: &F,
-    word: &[u8],
-    marks: &[u8],
-    g: &[u8],
-    p: &[u8],
-    first: &mut Pair,
-    second: &mut Pair,
-) -> bool
-    requires { (F.sound field.now) × ((Readings (F.model field.now) word.now marks.now g.now p.now) × (Lengths (length word.now) first.old.q.now first.old.e.now second.old.q.now second.old.e.now)) }
-    ensures located { Located (F.model field.now) (length word.now) word.now marks.now g.now p.now (if result then first.new.e.now else second.new.e.now) }
-    ensures lengths { Lengths (length word.now) first.new.q.now first.new.e.now second.new.q.now second.new.e.now }
-{
-    first.q.fill(1);
-    first.e.fill(0);
-    first.bound = 1;
-    second.q.fill(0);
-    second.e.fill(1);
-    second.bound = 0;
-    for (x, y) in word.iter().enumerate() {
-        if marks[x] == 0 && p[x] != 0 {
-            let t = quotient(field, *y, g[x], p[x]);
-            if advance(field, x, t, first, second) {
-                first.bound += 1;
-            } else {
-                second.bound += 1;
-            }
-        }
-    }
-    first.bound <= second.bound
-}
-
 /// Marks the blank places and those where e vanishes.
 fn mark_roots(marks: &[u8], e: &[u8], skip: &mut [u8])
     requires { (length e.now ≡ length marks.now) × (length skip.old ≡ length marks.now) }
@@ -137,36 +103,67 @@ fn mark_roots(marks: &[u8], e: &[u8], skip: &mut [u8])
     }
 }
 
-/// Marks in `skip` each place but the readable ones that a solution of the key equation shows to be right.
-pub(crate) fn locate<F: Field>(
-    field: &F,
-    word: &[u8],
-    marks: &[u8],
-    g: &[u8],
-    p: &[u8],
-    skip: &mut [u8],
-)
-    requires { (F.sound field.now) × ((Readings (F.model field.now) word.now marks.now g.now p.now) × ((length skip.old ≡ length word.now) × (length word.now ≤ 256))) }
-    ensures { Rightful (F.model field.now) word.now marks.now g.now p.now skip.new }
-{
-    let n = word.len();
-    let mut q0 = [0; 256];
-    let mut e0 = [0; 256];
-    let mut q1 = [0; 256];
-    let mut e1 = [0; 256];
-    let mut first = Pair {
-        q: &mut q0[..n],
-        e: &mut e0[..n],
-        bound: 1,
-    };
-    let mut second = Pair {
-        q: &mut q1[..n],
-        e: &mut e1[..n],
-        bound: 0,
-    };
-    if solve(field, word, marks, g, p, &mut first, &mut second) {
-        mark_roots(marks, first.e, skip);
-    } else {
-        mark_roots(marks, second.e, skip);
+/// The key equation of a word with its marks, by the values g through a first choice of its places and the product p that vanishes there.
+#[derive(Drop)]
+pub(crate) struct KeyEquation<'a, F> {
+    pub field: &'a F,
+    pub word: &'a [u8],
+    pub marks: &'a [u8],
+    pub g: &'a [u8],
+    pub p: &'a [u8],
+}
+
+impl<F: Field> KeyEquation<'_, F> {
+    /// Solves the equation over the readable places outside the choice that p vanishes at. Answers whether the first of the two pairs
+    /// has the smaller bound.
+    fn solve(&self, first: &mut Pair, second: &mut Pair) -> bool
+        requires { (F.sound self.now.field.now) × ((Readings (F.model self.now.field.now) self.now.word.now self.now.marks.now self.now.g.now self.now.p.now) × (Lengths (length self.now.word.now) first.old.q.now first.old.e.now second.old.q.now second.old.e.now)) }
+        ensures located { Located (F.model self.now.field.now) (length self.now.word.now) self.now.word.now self.now.marks.now self.now.g.now self.now.p.now (if result then first.new.e.now else second.new.e.now) }
+        ensures lengths { Lengths (length self.now.word.now) first.new.q.now first.new.e.now second.new.q.now second.new.e.now }
+    {
+        first.q.fill(1);
+        first.e.fill(0);
+        first.bound = 1;
+        second.q.fill(0);
+        second.e.fill(1);
+        second.bound = 0;
+        for (x, y) in self.word.iter().enumerate() {
+            if self.marks[x] == 0 && self.p[x] != 0 {
+                let t = quotient(self.field, *y, self.g[x], self.p[x]);
+                if advance(self.field, x, t, first, second) {
+                    first.bound += 1;
+                } else {
+                    second.bound += 1;
+                }
+            }
+        }
+        first.bound <= second.bound
+    }
+
+    /// Marks in `skip` each place but the readable ones that a solution of the equation shows to be right.
+    pub(crate) fn locate(&self, skip: &mut [u8])
+        requires { (F.sound self.now.field.now) × ((Readings (F.model self.now.field.now) self.now.word.now self.now.marks.now self.now.g.now self.now.p.now) × ((length skip.old ≡ length self.now.word.now) × (length self.now.word.now ≤ 256))) }
+        ensures { Rightful (F.model self.now.field.now) self.now.word.now self.now.marks.now self.now.g.now self.now.p.now skip.new }
+    {
+        let n = self.word.len();
+        let mut q0 = [0; 256];
+        let mut e0 = [0; 256];
+        let mut q1 = [0; 256];
+        let mut e1 = [0; 256];
+        let mut first = Pair {
+            q: &mut q0[..n],
+            e: &mut e0[..n],
+            bound: 1,
+        };
+        let mut second = Pair {
+            q: &mut q1[..n],
+            e: &mut e1[..n],
+            bound: 0,
+        };
+        if self.solve(&mut first, &mut second) {
+            mark_roots(self.marks, first.e, skip);
+        } else {
+            mark_roots(self.marks, second.e, skip);
+        }
     }
 }

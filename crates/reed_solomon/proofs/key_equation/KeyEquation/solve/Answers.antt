@@ -7,8 +7,8 @@ use Rattle.reed_solomon_laws.proofs.Counts.{readable}
 use Rattle.reed_solomon_laws.proofs.Keying.{keyed_none, keyed_skip, keyed_first, keyed_second, one_misses, located_first, located_second}
 use Rattle.reed_solomon.specs.Passes.{Advanced, Lengths}
 use Rattle.reed_solomon.specs.declared.key_equation.Pair.{Pair}
-use Rattle.reed_solomon.proofs.key_equation.solve.Goals as goal
-use Rattle.reed_solomon.proofs.key_equation.solve.Goals.{then-marks-x-eq0+then-p-x-ne0+then-advance, then-marks-x-eq0+then-p-x-ne0+else-advance, else-marks-x-eq0, else-marks-x-eq0-via-then-marks-x-eq0+else-p-x-ne0, else-marks-x-eq0-via-else-marks-x-eq0}
+use Rattle.reed_solomon.proofs.key_equation.KeyEquation.solve.Goals as goal
+use Rattle.reed_solomon.proofs.key_equation.KeyEquation.solve.Goals.{then-self-x-eq0+then-self-x-ne0+then-advance, then-self-x-eq0+then-self-x-ne0+else-advance, else-self-x-eq0, else-self-x-eq0-via-then-self-x-eq0+else-self-x-ne0, else-self-x-eq0-via-else-self-x-eq0}
 
 passes_here : (marks p : List ℕ) (x : ℕ) → get_or marks x 0 ≡ 0 → (get_or p x 0 ≡ 0 → ⊥) → passes marks p x ≡ true
 passes_here marks p x m ne = and_from (readable marks x) _ (eq-eqb (get_or marks x 0) 0 m) (not_from_false _ (ne_eqb (get_or p x 0) 0 ne))
@@ -18,11 +18,11 @@ filled xs m a n e long j l = ap (λ ys. get_or ys j 0) e ∙ get_or-replicate m 
 
 pub loop-x-init : goal.loop-x-init
 loop-x-init g c =
-    let f : FieldModel = g.F.Field.model c.args.field.now in
-    let laws : FieldLaws f = g.met.F.Field.lawful c.args.field.now c.requires.0 in
-    let n = length c.args.word.now in
+    let f : FieldModel = g.F.Field.model c.args.self.now.field.now in
+    let laws : FieldLaws f = g.met.F.Field.lawful c.args.self.now.field.now c.requires.0 in
+    let n = length c.args.self.now.word.now in
     let long = c.requires.1.1 in (
-      keyed_none f laws n c.requires.1.0.0 c.args.word.now c.args.marks.now c.args.g.now c.args.p.now c.fill.new.self c.fill-2.new.self c.fill-3.new.self c.fill-4.new.self
+      keyed_none f laws n c.requires.1.0.0 c.args.self.now.word.now c.args.self.now.marks.now c.args.self.now.g.now c.args.self.now.p.now c.fill.new.self c.fill-2.new.self c.fill-3.new.self c.fill-4.new.self
           (filled _ _ 1 n (c.fill.ensures.after (λ y e. e)) long.0) (filled _ _ 0 n (c.fill-2.ensures.after (λ y e. e)) long.1) (filled _ _ 0 n (c.fill-3.ensures.after (λ y e. e)) long.2) (filled _ _ 1 n (c.fill-4.ensures.after (λ y e. e)) long.3),
       omega arith,
       (c.fill.ensures.len ∙ long.0, c.fill-2.ensures.len ∙ long.1, c.fill-3.ensures.len ∙ long.2, c.fill-4.ensures.len ∙ long.3),
@@ -30,12 +30,12 @@ loop-x-init g c =
 
 pub loop-x-preserved : goal.loop-x-preserved
 loop-x-preserved g c =
-    let f : FieldModel = g.F.Field.model c.args.field.now in
-    let laws : FieldLaws f = g.met.F.Field.lawful c.args.field.now c.requires.0 in
-    let word = c.args.word.now in
-    let marks = c.args.marks.now in
-    let gs = c.args.g.now in
-    let p = c.args.p.now in
+    let f : FieldModel = g.F.Field.model c.args.self.now.field.now in
+    let laws : FieldLaws f = g.met.F.Field.lawful c.args.self.now.field.now c.requires.0 in
+    let word = c.args.self.now.word.now in
+    let marks = c.args.self.now.marks.now in
+    let gs = c.args.self.now.g.now in
+    let p = c.args.self.now.p.now in
     let n = length word in
     let x = c.loop-x.x in
     let q₀ = c.loop-x.first.q.now in
@@ -49,9 +49,9 @@ loop-x-preserved g c =
     let l0 : length q₀ ≡ n = c.loop-x.invariant.2.0 in
     let Holds : Pair → Pair → Type 0 = λ a b.
     Keyed f n word marks gs p (x + 1) a.q.now a.e.now b.q.now b.e.now a.bound b.bound × (a.bound + b.bound ≤ 1 + (x + 1)) × Lengths n a.q.now a.e.now b.q.now b.e.now in
-    elim c.if-marks-x-eq0.branch [
-      | then-marks-x-eq0+then-p-x-ne0+then-advance w ↦
-          let here = passes_here marks p x w.if-marks-x-eq0.true w.if-p-x-ne0.true in
+    elim c.if-self-x-eq0.branch [
+      | then-self-x-eq0+then-self-x-ne0+then-advance w ↦
+          let here = passes_here marks p x w.if-self-x-eq0.true w.if-self-x-ne0.true in
           let u = w.advance.new.first in
           let v = w.advance.new.second in
           let a : Advanced f n x w.quotient-t.result (b₀, b₁) q₀ e₀ q₁ e₁ u.q.now u.e.now v.q.now v.e.now true =
@@ -62,8 +62,8 @@ loop-x-preserved g c =
             omega (arith, w.advance.ensures.bounds.0, w.advance.ensures.bounds.1, c.loop-x.invariant.1),
             subst (λ (m : ℕ). Lengths m u.q.now u.e.now v.q.now v.e.now) l0 w.advance.ensures.lengths,
           )
-      | then-marks-x-eq0+then-p-x-ne0+else-advance w ↦
-          let here = passes_here marks p x w.if-marks-x-eq0.true w.if-p-x-ne0.true in
+      | then-self-x-eq0+then-self-x-ne0+else-advance w ↦
+          let here = passes_here marks p x w.if-self-x-eq0.true w.if-self-x-ne0.true in
           let u = w.advance.new.first in
           let v = w.advance.new.second in
           let a : Advanced f n x w.quotient-t.result (b₀, b₁) q₀ e₀ q₁ e₁ u.q.now u.e.now v.q.now v.e.now false =
@@ -76,9 +76,9 @@ loop-x-preserved g c =
             omega (arith, w.advance.ensures.bounds.0, w.advance.ensures.bounds.1, c.loop-x.invariant.1),
             subst (λ (m : ℕ). Lengths m u.q.now u.e.now v.q.now v.e.now) l0 w.advance.ensures.lengths,
           )
-      | else-marks-x-eq0 w ↦ subst₂ Holds (sym w.first-is) (sym w.second-is) (
+      | else-self-x-eq0 w ↦ subst₂ Holds (sym w.first-is) (sym w.second-is) (
         keyed_skip f laws n c.requires.1.0.0 word marks gs p x q₀ e₀ q₁ e₁ b₀ b₁ s
-            (elim w.else-marks-x-eq0.branch [ else-marks-x-eq0-via-then-marks-x-eq0+else-p-x-ne0 v ↦ and_right (readable marks x) _ (not_from_true _ (eq-eqb (get_or p x 0) 0 v.if-p-x-ne0.false)) | else-marks-x-eq0-via-else-marks-x-eq0 v ↦ and_left _ _ (ne_eqb (get_or marks x 0) 0 v.if-marks-x-eq0.false) ]),
+            (elim w.else-self-x-eq0.branch [ else-self-x-eq0-via-then-self-x-eq0+else-self-x-ne0 v ↦ and_right (readable marks x) _ (not_from_true _ (eq-eqb (get_or p x 0) 0 v.if-self-x-ne0.false)) | else-self-x-eq0-via-else-self-x-eq0 v ↦ and_left _ _ (ne_eqb (get_or marks x 0) 0 v.if-self-x-eq0.false) ]),
         omega (arith, c.loop-x.invariant.1),
         c.loop-x.invariant.2,
       )
@@ -86,12 +86,12 @@ loop-x-preserved g c =
 
 pub returns-clause-located : goal.returns-clause-located
 returns-clause-located g c =
-    let f : FieldModel = g.F.Field.model c.args.field.now in
-    let n = length c.args.word.now in
+    let f : FieldModel = g.F.Field.model c.args.self.now.field.now in
+    let n = length c.args.self.now.word.now in
     let first = c.loop-x.first in
     let second = c.loop-x.second in
     let done : c.loop-x.x ≡ n = omega (arith, c.loop-x-test.false, c.loop-x.auto.x-end) in
-    let s = subst (λ (m : ℕ). Keyed f n c.args.word.now c.args.marks.now c.args.g.now c.args.p.now m first.q.now first.e.now second.q.now second.e.now first.bound second.bound) done c.loop-x.invariant.0 in
-    cond_both (leb first.bound second.bound) first.e.now second.e.now (λ (e : List ℕ). Located f n c.args.word.now c.args.marks.now c.args.g.now c.args.p.now e)
-    (λ h. located_first f n c.args.word.now c.args.marks.now c.args.g.now c.args.p.now first.q.now first.e.now second.q.now second.e.now first.bound second.bound s (leb-true _ _ h))
-    (λ h. located_second f n c.args.word.now c.args.marks.now c.args.g.now c.args.p.now first.q.now first.e.now second.q.now second.e.now first.bound second.bound s (leb-false _ _ h))
+    let s = subst (λ (m : ℕ). Keyed f n c.args.self.now.word.now c.args.self.now.marks.now c.args.self.now.g.now c.args.self.now.p.now m first.q.now first.e.now second.q.now second.e.now first.bound second.bound) done c.loop-x.invariant.0 in
+    cond_both (leb first.bound second.bound) first.e.now second.e.now (λ (e : List ℕ). Located f n c.args.self.now.word.now c.args.self.now.marks.now c.args.self.now.g.now c.args.self.now.p.now e)
+    (λ h. located_first f n c.args.self.now.word.now c.args.self.now.marks.now c.args.self.now.g.now c.args.self.now.p.now first.q.now first.e.now second.q.now second.e.now first.bound second.bound s (leb-true _ _ h))
+    (λ h. located_second f n c.args.self.now.word.now c.args.self.now.marks.now c.args.self.now.g.now c.args.self.now.p.now first.q.now first.e.now second.q.now second.e.now first.bound second.bound s (leb-false _ _ h))
