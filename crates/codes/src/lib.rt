@@ -1,6 +1,7 @@
 // Codes: what every block code offers, and the simple kinds.
 #![tactic(auto)]
 
+mod borrowed;
 pub mod checks;
 pub mod code;
 pub mod open;

@@ -77,3 +77,24 @@ fn unfit(rt: HostRuntime) -> Result<(), Fail> {
     assert_eq!(rt; memory.patrol(0), Err(short));
     Ok(())
 }
+
+// A memory over a code that it is lent.
+#[test]
+fn a_lent_code(rt: HostRuntime) -> Result<(), Fail> {
+    let mut bytes = [0; 8];
+    let mut medium = Packed {
+        bytes: &mut bytes,
+        pages: 2,
+        breadth: 10,
+    };
+    let code = Open::new(1, 10)?;
+    let mut memory = Memory {
+        medium: &mut medium,
+        code: &code,
+    };
+    let mut payload = [0];
+    assert_eq!(rt; memory.write(0, &[0x3c]), Ok(0));
+    assert_eq!(rt; memory.read(0, &mut payload), Ok(0));
+    assert_eq!(rt; payload, [0x3c]);
+    Ok(())
+}
