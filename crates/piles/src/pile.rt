@@ -223,7 +223,9 @@ impl<H: Chain, A: Code> Code for Pile<H, A> {
     }
 
     /// The bits of a symbol: a pile's symbols are cells.
-    fn width(&self) -> usize {
+    fn width(&self) -> usize
+        ensures { result ≡ 1 }
+    {
         1
     }
 
