@@ -25,6 +25,8 @@ fn chain<F: Field + Drop>(field: Result<F, Fault>, elements: &[u8]) -> Result<u8
     elements.iter().try_fold(1, |all, x| field.product(all, *x))
 }
 
+// C has no Option: a refusal, which width 8 never brings, is `false` or 0.
+
 #[unsafe(no_mangle)]
 pub extern "C" fn polynomial_scale(elements: &mut [u8], by: u8) -> bool {
     scale(Polynomial::new(8), elements, by).is_ok()

@@ -1,10 +1,10 @@
 -- Codes of one type, gone through one by one. Assumes nothing.
-use Rattle.std.proofs.Common.{◌≡◌, ℕ, zero, suc, ◌+◌, ◌*◌, ◌<◌, ◌≤◌, min, true, false, leb, List, [], ◌∷◌, ◌++◌, map, length, get_or, take, drop, Some, None, sym, refl, ap, ◌∙◌, subst, ap₂, add-one, arith}
+use Rattle.std.proofs.Common.{◌≡◌, ℕ, zero, suc, ◌+◌, ◌*◌, ◌<◌, ◌≤◌, min, true, false, leb, List, [], ◌∷◌, ◌++◌, map, length, get_or, take, drop, Some, None, sym, refl, ap, ◌∙◌, subst, ap₂, add-one, mul-le-mul, arith}
 use borrow.Rule.Slice.PartMut.{put_mid}
 use Rattle.std.specs.List.{AllByRecursion}
 use Rattle.std.proofs.lemmas.List.{append_assoc, append-nil, drop_all, drop-drop, drop_more}
 use Rattle.std.proofs.lemmas.Bool.{cond-true, cond-false, le-leb, lt-leb}
-use Rattle.chains.specs.Model.{ChainModel}
+use Rattle.chains.specs.Model.{ChainModel, LawfulChain}
 use Rattle.codes.specs.Model.{CodeModel, Lawful}
 use Rattle.pile_laws.specs.Build.{columns, least, reach, stage_bits, stage_reaches, stage_words, symbols, total_bits}
 use Rattle.pile_laws.specs.Fit.{EachLawful, EachLong, Fits, fits_stage, unfit_from}
@@ -82,6 +82,14 @@ length_models model (a ∷ codes) = ap suc (length_models model codes)
 pub codes_many : {A : Type 0} (model : A → CodeModel) (codes : List A) (h : ChainModel) → Fits h (map model codes) → length codes ≡ h.stages
 codes_many model codes h fits =
     omega (arith, length_models model codes, fitting_length h (columns (map model codes)) 1 (map model codes) (omega arith) (omega arith) (fitting h (map model codes) fits).0)
+
+-- as a chain has five stages at most, their words of n symbols have room in five times 4,096
+module _ {A : Type 0} (model : A → CodeModel) (codes : List A) (h : ChainModel) (law : LawfulChain h) (fits : Fits h (map model codes)) where
+  pub few_codes : length codes ≤ 5
+  few_codes = omega (arith, codes_many model codes h fits, law.few_stages)
+
+  pub room_for : (n : ℕ) → n ≤ 4096 → n * length codes ≤ 20480
+  room_for n few = mul-le-mul {n₁ = n} {m₁ = length codes} {n₂ = 4096} {m₂ = 5} few few_codes
 
 -- the stages' codewords, code after code
 module _ {A : Type 0} (model : A → CodeModel) (codes : List A) (n k : ℕ) (a : A) (is : a ≡ get_or codes k a) (l : k < length codes) where

@@ -1,5 +1,6 @@
 -- One stage's step over the row that holds the words chosen so far. Assumes nothing.
 use Rattle.std.proofs.Common.{◌≡◌, ℕ, suc, ◌+◌, ◌*◌, ◌<◌, ◌≤◌, List, [], ◌∷◌, ◌++◌, length, get_or, take, drop, Some, None, Ok, Err, Option, Result, sym, ap, ◌∙◌, subst, arith, MatchResult}
+use Rattle.std.specs.Option.{MatchOption}
 use borrow.Rule.Slice.PartMut.{put_mid}
 use Rattle.std.specs.List.{AllByRecursion}
 use Rattle.std.proofs.lemmas.List.{length-drop, length-take-le}
@@ -42,19 +43,21 @@ module _ (h : ChainModel) (cs : List CodeModel) (laws : EachLawful cs) (fits : F
           let part : length (take span (drop (n * k) row)) ≡ columns cs = ap (λ (i : ℕ). length (take i (drop (n * k) row))) whole ∙ length-take-le n (drop (n * k) row) (omega (arith, length-drop (n * k) row, room)) ∙ over in
           stage_answer h cs fits word marks (words_in n k row) (omega (arith, length_words_in n k row)) es column_estimates c (is ∙ ap (λ (i : ℕ). get_or cs i no_code) m) d (distance ∙ ap (λ (i : ℕ). h.distance (suc i)) m) (take span (drop (n * k) row)) part' r part chose
 
-      pub stage_chosen : (x : ℕ) → r ≡ Ok (Some x) → (words_in n k (put_mid (n * k) span row part') ≡ words_in n k row) × NextChoice h cs word marks (words_in n k row) (column n k (put_mid (n * k) span row part'))
-      stage_chosen x e =
-          let choice = subst (λ (q : Result (Option ℕ) Fault). MatchResult q (Choice (code_at cs (suc (length (words_in n k row)))) (h.distance (suc (length (words_in n k row)))) es (take span (drop (n * k) row)) part') (λ _. ⊥)) e answered in
+      -- the choice stands behind the words before it, or there is none
+      abbrev pub Outcome : Result (Option ℕ) Fault → Type 0
+      Outcome q =
+          MatchResult q (λ o. MatchOption o (NoChoice h cs word marks (words_in n k row)) (λ _. (words_in n k (put_mid (n * k) span row part') ≡ words_in n k row) × NextChoice h cs word marks (words_in n k row) (column n k (put_mid (n * k) span row part'))))
+          (λ _. ⊥)
+
+      outcome_of : (q : Result (Option ℕ) Fault) → MatchResult q (Choice (code_at cs (suc (length (words_in n k row)))) (h.distance (suc (length (words_in n k row)))) es (take span (drop (n * k) row)) part') (λ _. ⊥) → Outcome q
+      outcome_of (Ok (Some x)) choice =
           let written : column n k (put_mid (n * k) span row part') ≡ part' = ap (λ (i : ℕ). column n k (put_mid (n * k) i row part')) whole ∙ column_written n k row part' (omega arith) long in
           (ap (λ (i : ℕ). words_in n k (put_mid (n * k) i row part')) whole ∙ words_kept n k row part' (omega arith), (es, column_estimates, (choice.0, choice.1, written ∙ choice.2)))
+      outcome_of (Ok None) choice = (es, column_estimates, choice.1)
+      outcome_of (Err f) never = never
 
-      pub stage_without : r ≡ Ok None → NoChoice h cs word marks (words_in n k row)
-      stage_without e =
-          let choice = subst (λ (q : Result (Option ℕ) Fault). MatchResult q (Choice (code_at cs (suc (length (words_in n k row)))) (h.distance (suc (length (words_in n k row)))) es (take span (drop (n * k) row)) part') (λ _. ⊥)) e answered in
-          (es, column_estimates, choice.1)
-
-      pub stage_answers : (f : Fault) → r ≡ Err f → ⊥
-      stage_answers f e = subst (λ (q : Result (Option ℕ) Fault). MatchResult q (Choice (code_at cs (suc (length (words_in n k row)))) (h.distance (suc (length (words_in n k row)))) es (take span (drop (n * k) row)) part') (λ _. ⊥)) e answered
+      pub stage_outcome : Outcome r
+      stage_outcome = outcome_of r answered
 
   -- with its choice behind them, the words chosen are one more
   pub choices_step : (row' : List ℕ) → words_in n k row' ≡ words_in n k row → NextChoice h cs word marks (words_in n k row) (column n k row') → Choices h cs word marks (words_in n (k + 1) row')

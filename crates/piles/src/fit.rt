@@ -61,7 +61,7 @@ pub(crate) fn count_columns<A: Code>(codes: &[A]) -> usize
     ensures value { result ≡ columns_of (map A.Code.model codes.now) }
     ensures bound { result ≤ 4096 }
 {
-    if codes.len() == 0 { 0 } else { codes[0].len() }
+    codes.first().map_or(0, |code| code.len())
 }
 
 fn unfit_at(place: usize) -> Fault

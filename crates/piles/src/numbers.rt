@@ -1,4 +1,6 @@
-// The numbers of a pile whose parts are sound and fit: message bits and reach.
+// The numbers of a pile whose parts are sound and fit: message bits and reach. The chain and the codes are handed on side by
+// side, and that they are sound stands in each contract: `new` asks these before there is a pile, and what is sound may have
+// several proofs, which a ghost field refuses.
 ghost use Rattle.std.specs.Prelude.{◌≡◌, ◌*◌, ◌≤◌, map, length, MatchResult};
 ghost use Rattle.std.specs.List.{AllByRecursion};
 ghost use Rattle.chains.specs.Model.{Stage};
@@ -18,7 +20,8 @@ pub(crate) fn bits_of<A: Code>(code: &A) -> usize
     code.message_len() * code.width()
 }
 
-/// K: the bits of a pile's message.
+/// K: the bits of a pile's message. Recipes count the same over their records, before there is a code to ask; a theorem of
+/// recipe_piles says that both agree.
 pub(crate) fn count_bits<A: Code>(codes: &[A]) -> usize
     requires { (AllByRecursion A.Code.sound codes.now) × (length codes.now ≤ 5) }
     ensures { result ≡ total_bits (map A.Code.model codes.now) }

@@ -23,7 +23,7 @@ use crate::messages::encode_stages;
 use crate::numbers::{count_bits, least_reach};
 use crate::recovery::recover_stages;
 use chains::chain::Chain;
-use codes::checks::Parameters;
+use codes::checks::{Parameters, check_near};
 use codes::code::Code;
 use words::fault::{Fault, Kind, Layer};
 use words::limits::{MOST_CELLS, MOST_STAGES};
@@ -36,6 +36,7 @@ const MOST_LABELS: usize = MOST_STAGES * MOST_CELLS;
 pub struct Pile<H, A> {
     chain: H,
     // An array and how much of it is used: the library has no heap, and the kit's ArrayVec wants a default for its free places.
+    // That at most five are used is no ghost field, since no Clone is derived over one for a generic type.
     stages: [A; MOST_STAGES],
     used: usize,
 }
@@ -121,17 +122,6 @@ fn write_codeword<H: Chain, A: Code>(
     lay_columns(chain, &words, columns, word)
 }
 
-/// Refuses a word that lies at some harm from the codeword found.
-fn check_exact(harm: usize) -> Result<(), Fault>
-    ensures { MatchResult result (λ _. harm ≡ 0) (λ f. (harm ≢ 0) × (f ≡ fault NoCodeword the_code 0)) }
-{
-    if harm == 0 {
-        Ok(())
-    } else {
-        Err(Fault::new(Kind::NoCodeword, Layer::Code, 0))
-    }
-}
-
 /// Finds the stages' codewords of a word that is a codeword, and refuses any other word with 12 at place 0.
 fn recognize<H: Chain, A: Code>(
     chain: &H,
@@ -148,7 +138,7 @@ fn recognize<H: Chain, A: Code>(
     ensures { Recognizes (H.Chain.model chain.now) (map A.Code.model codes.now) columns (length codes.now) word.now words.new result }
 {
     match find(chain, codes, columns, word, marks, words, found) {
-        Ok(harm) => check_exact(harm),
+        Ok(harm) => check_near(harm, 1),
         Err(_) => Err(Fault::new(Kind::NoCodeword, Layer::Code, 0)),
     }
 }

@@ -17,6 +17,7 @@ use recipes::kinds::CodeKind;
 use recipes::table::Stage;
 use reed_solomon::code::ReedSolomon;
 use words::fault::Fault;
+use words::limits::MOST_STAGES;
 
 fn open_code(width: usize, len: usize) -> Result<StageCode, Fault>
     requires { InRange width len }
@@ -64,12 +65,13 @@ fn make_code(stage: &Stage) -> Result<StageCode, Fault>
 }
 
 /// The codes of some stages, first to last. What stands behind them has no meaning.
-pub(crate) fn make_codes(stages: &[Stage]) -> Result<[StageCode; 5], Fault>
+pub(crate) fn make_codes(stages: &[Stage]) -> Result<[StageCode; MOST_STAGES], Fault>
     requires { (AllByRecursion Makeable stages.now) × ((0 < length stages.now) × (length stages.now ≤ 5)) }
     ensures { Made (λ codes. StagesHave stages.now (take (length stages.now) codes)) result }
 {
     let first = make_code(&stages[0])?;
-    let mut codes = [first; 5];
+    let mut codes = [first; MOST_STAGES];
+    // By index, since nothing is known of what a zip of iter_mut wrote.
     for (i, stage) in stages.iter().enumerate() {
         codes[i] = make_code(stage)?;
     }

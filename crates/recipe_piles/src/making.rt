@@ -12,10 +12,11 @@ use codes::code::Code;
 use piles::pile::Pile;
 use recipes::recipe::Recipe;
 use words::fault::Fault;
+use words::limits::MOST_STAGES;
 
 impl Parts {
     // The codes behind those of the stages have no meaning.
-    fn new(chain: RecipeChain, codes: [StageCode; 5], stages: usize) -> Self
+    fn new(chain: RecipeChain, codes: [StageCode; MOST_STAGES], stages: usize) -> Self
         requires { stages ≤ 5 }
         ensures chain { result.chain ≡ chain }
         ensures codes { codes_of result ≡ take stages codes }

@@ -10,6 +10,7 @@ use fields::extension::Extension;
 use fields::polynomial::Polynomial;
 use piles::pile::Pile;
 use reed_solomon::code::ReedSolomon;
+use words::limits::MOST_STAGES;
 
 /// A chain that a recipe can name.
 pub type RecipeChain = Either<ReedMuller, Even>;
@@ -27,8 +28,8 @@ pub type RecipePile = Pile<RecipeChain, StageCode>;
 #[derive(Clone, Copy)]
 pub struct Parts {
     pub chain: RecipeChain,
-    // An array and how much of it is used, as in a pile.
-    pub(crate) codes: [StageCode; 5],
+    // An array and how much of it is used, as in a pile; but these parts are made and not yet checked against each other.
+    pub(crate) codes: [StageCode; MOST_STAGES],
     pub(crate) stages: usize,
     ghost few: { stages ≤ 5 },
 }

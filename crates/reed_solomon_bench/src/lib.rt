@@ -26,7 +26,7 @@ pub extern "C" fn reed_solomon_encode(message: &[u8], word: &mut [u8]) -> bool {
     encode(message, word).is_ok()
 }
 
-/// The harm, or 10,000 for a refusal.
+/// The harm, or 10,000 for a refusal: C has no Option, and no word of 255 symbols has so much harm.
 #[unsafe(no_mangle)]
 pub extern "C" fn reed_solomon_correct(word: &mut [u8], marks: &[u8], message_len: usize) -> usize {
     correct(word, marks, message_len).unwrap_or(10000)

@@ -1,6 +1,7 @@
-use Rattle.std.proofs.Common.{◌≡◌, ℕ, suc, ◌+◌, ◌-◌, ◌*◌, ◌<◌, ◌≤◌, List, map, length, take, drop, replicate, Option, None, Ok, Err, sym, refl, ap, ◌∙◌, subst, add-one, arith, rules}
+use Rattle.std.proofs.Common.{◌≡◌, ℕ, suc, ◌+◌, ◌-◌, ◌*◌, ◌<◌, ◌≤◌, List, map, MatchResult, Result, length, take, drop, replicate, Option, None, Ok, Err, sym, ap, ◌∙◌, subst, add-one, arith, rules}
 use Rattle.std.proofs.ByRecursion.{All-get_or}
 use Rattle.std.proofs.lemmas.List.{length-drop, length-take-le}
+use Rattle.words.specs.declared.fault.Fault.{Fault}
 use Rattle.words.specs.declared.fault.Kind.TheVariants.{NoCodeword}
 use Rattle.words.specs.declared.fault.Layer.TheVariants.{Code}
 use Rattle.words.specs.Faults.{fault}
@@ -8,10 +9,17 @@ use Rattle.chains.specs.declared.chain.Estimate.{Estimate}
 use Rattle.chains.specs.Model.{Stage}
 use Rattle.chains.specs.FromLaw.{within}
 use Rattle.codes.specs.Model.{CodeModel}
+use borrow.Rule.Slice.PartMut.{put_mid}
+use Rattle.std.specs.Option.{MatchOption}
+use Rattle.stage_laws.specs.Promises.{Chose}
+use Rattle.pile_laws.specs.Flat.{words_in}
+use Rattle.pile_laws.specs.Stages.{NextChoice, NoChoice, column}
 use Rattle.pile_laws.proofs.Calls.{stage_never, stage_number}
 use Rattle.pile_laws.proofs.Flat.{part_in}
 use Rattle.pile_laws.proofs.Scans.{codes_many, each_lawful, length_models, model_at}
-use Rattle.pile_laws.proofs.Stepping.{labels_chosen, stage_answers, stage_chosen, stage_without}
+use Rattle.pile_laws.proofs.Stepping.{labels_chosen, stage_outcome}
+use Rattle.piles.proofs.choices.choose_stage.Given.{Over}
+use Rattle.piles.proofs.choices.choose_stage.Goals.{After-choose}
 use Rattle.piles.proofs.choices.choose_stage.Goals as goal
 
 room_long : (n : ℕ) → n ≤ 4096 → length (take n (replicate {A = Option Estimate} 4096 None)) ≡ n
@@ -56,8 +64,22 @@ overflow_cast-inner g c =
     let is = stage_number (g.H.Chain.sound chain) h h.distance (c.args.chosen + 1) c.in_ok-inner.inner c.requires.parts.0 stage c.in_ok-inner.ensures in
     record { fits = omega (arith, is, within h law (c.args.chosen + 1) stage, law.few_cells) }
 
-pub returns-in_err-choose : goal.returns-in_err-choose
-returns-in_err-choose g c =
+-- with its choice the code's part of the row is written, and there may be none
+abbrev Outcome : (g : Over) → After-choose g → Result (Option ℕ) Fault → Type 0
+Outcome g c r =
+    let h = g.H.Chain.model c.args.chain.now in
+    let cs : List CodeModel = map g.A.Code.model c.args.codes.now in
+    let n = c.args.columns in
+    let k = c.args.chosen in
+    let row = c.args.words.now in
+    let row' = put_mid (n * k) (n * k + n - n * k) row c.choose.new.word in
+    let before = words_in n k row in
+    MatchResult r (λ o. MatchOption o (NoChoice h cs c.args.word.now c.args.marks.now before) (λ _. (words_in n k row' ≡ before) × NextChoice h cs c.args.word.now c.args.marks.now before (column n k row'))) (λ _. ⊥)
+
+outcome : (g : Over) → (c : After-choose g) → (r : Result (Option ℕ) Fault) →
+    (g.A.Code.sound c.index-codes-chosen.result → Chose (g.A.Code.model c.index-codes-chosen.result) c.in_ok-inner.inner c.estimate_columns.new.estimates (take (c.args.columns * c.args.chosen + c.args.columns - c.args.columns * c.args.chosen) (drop (c.args.columns * c.args.chosen) c.args.words.now)) c.choose.new.word r) →
+    Outcome g c r
+outcome g c r chose =
     let model = g.A.Code.model in
     let codes = c.args.codes.now in
     let chain = c.args.chain.now in
@@ -75,70 +97,23 @@ returns-in_err-choose g c =
     let room = part_in n (length codes) k c.requires.stage.0 in
     let fits : n * k + n ≤ length row = omega (arith, room, c.requires.stage.1.0) in
     let span = n * k + n - n * k in
-    let width : n * k + n - n * k ≡ n = omega arith in
-    let part : length (take (n * k + n - n * k) (drop (n * k) row)) ≡ n = ap (λ (i : ℕ). length (take i (drop (n * k) row))) width ∙ length-take-le n (drop (n * k) row) (omega (arith, length-drop (n * k) row, fits)) in
-    let long : length c.choose.new.word ≡ n = c.choose.auto.word ∙ part in
+    let width : span ≡ n = omega arith in
+    let part : length (take span (drop (n * k) row)) ≡ n = ap (λ (i : ℕ). length (take i (drop (n * k) row))) width ∙ length-take-le n (drop (n * k) row) (omega (arith, length-drop (n * k) row, fits)) in
     let sound = subst g.A.Code.sound (sym c.index-codes-chosen.is) (All-get_or g.A.Code.sound codes k a c.requires.stage.0 c.requires.parts.1) in
-    let es = c.estimate_columns.new.estimates in
-    let les : length es ≡ n = c.estimate_columns.auto.estimates ∙ room_long n c.requires.columns.1 in
-    let each = c.in_ok-estimate_columns.ensures in
+    let les : length c.estimate_columns.new.estimates ≡ n = c.estimate_columns.auto.estimates ∙ room_long n c.requires.columns.1 in
     let is = model_at model codes k a c.requires.stage.0 c.index-codes-chosen.is in
-    absurd (stage_answers h cs laws c.requires.parts.2 c.args.word.now c.args.marks.now n c.requires.columns.0 k row c.requires.stage.1.1 few es les each (model a) is c.in_ok-inner.inner distance fits span width c.choose.new.word long (Err c.in_err-choose.field-0.0) (c.in_err-choose.ensures.sound sound) c.in_err-choose.field-0.0 refl)
+    stage_outcome h cs laws c.requires.parts.2 c.args.word.now c.args.marks.now n c.requires.columns.0 k row c.requires.stage.1.1 few c.estimate_columns.new.estimates les c.in_ok-estimate_columns.ensures (model a) is c.in_ok-inner.inner distance fits span width c.choose.new.word (c.choose.auto.word ∙ part) r (chose sound)
+
+pub returns-in_err-choose : goal.returns-in_err-choose
+returns-in_err-choose g c = absurd (outcome g (goal.at.returns-in_err-choose g c).After-choose (Err c.in_err-choose.field-0.0) c.in_err-choose.ensures.sound)
 
 pub returns-in-Some : goal.returns-in-Some
 returns-in-Some g c =
-    let model = g.A.Code.model in
-    let codes = c.args.codes.now in
-    let chain = c.args.chain.now in
-    let h = g.H.Chain.model chain in
-    let cs : List CodeModel = map model codes in
-    let laws = each_lawful model g.A.Code.sound codes g.met.A.Code.lawful c.requires.parts.1 in
-    let many = codes_many model codes h c.requires.parts.2 in
-    let n = c.args.columns in
-    let k = c.args.chosen in
-    let row = c.args.words.now in
-    let a = c.index-codes-chosen.result in
-    let few : k < length cs = omega (arith, length_models model codes, c.requires.stage.0) in
-    let stage : Stage h (k + 1) = (omega arith, omega (arith, many, c.requires.stage.0)) in
-    let distance : c.in_ok-inner.inner ≡ h.distance (suc k) = stage_number (g.H.Chain.sound chain) h h.distance (k + 1) c.in_ok-inner.inner c.requires.parts.0 stage c.in_ok-inner.ensures ∙ ap h.distance (add-one k) in
-    let room = part_in n (length codes) k c.requires.stage.0 in
-    let fits : n * k + n ≤ length row = omega (arith, room, c.requires.stage.1.0) in
-    let span = n * k + n - n * k in
-    let width : n * k + n - n * k ≡ n = omega arith in
-    let part : length (take (n * k + n - n * k) (drop (n * k) row)) ≡ n = ap (λ (i : ℕ). length (take i (drop (n * k) row))) width ∙ length-take-le n (drop (n * k) row) (omega (arith, length-drop (n * k) row, fits)) in
-    let long : length c.choose.new.word ≡ n = c.choose.auto.word ∙ part in
-    let sound = subst g.A.Code.sound (sym c.index-codes-chosen.is) (All-get_or g.A.Code.sound codes k a c.requires.stage.0 c.requires.parts.1) in
-    let es = c.estimate_columns.new.estimates in
-    let les : length es ≡ n = c.estimate_columns.auto.estimates ∙ room_long n c.requires.columns.1 in
-    let each = c.in_ok-estimate_columns.ensures in
-    let is = model_at model codes k a c.requires.stage.0 c.index-codes-chosen.is in
-    stage_chosen h cs laws c.requires.parts.2 c.args.word.now c.args.marks.now n c.requires.columns.0 k row c.requires.stage.1.1 few es les each (model a) is c.in_ok-inner.inner distance fits span width c.choose.new.word long (Ok c.in_ok-choose.field-0) (c.in_ok-choose.ensures.sound sound) c.in-Some.field-0 (ap Ok c.in-Some.is)
+    let after = (goal.at.returns-in-Some g c).After-choose in
+    subst (Outcome g after) (ap Ok c.in-Some.is) (outcome g after (Ok c.in_ok-choose.field-0) c.in_ok-choose.ensures.sound)
 
 pub returns-in-None : goal.returns-in-None
 returns-in-None g c =
-    let model = g.A.Code.model in
-    let codes = c.args.codes.now in
-    let chain = c.args.chain.now in
-    let h = g.H.Chain.model chain in
-    let cs : List CodeModel = map model codes in
-    let laws = each_lawful model g.A.Code.sound codes g.met.A.Code.lawful c.requires.parts.1 in
-    let many = codes_many model codes h c.requires.parts.2 in
-    let n = c.args.columns in
-    let k = c.args.chosen in
-    let row = c.args.words.now in
-    let a = c.index-codes-chosen.result in
-    let few : k < length cs = omega (arith, length_models model codes, c.requires.stage.0) in
-    let stage : Stage h (k + 1) = (omega arith, omega (arith, many, c.requires.stage.0)) in
-    let distance : c.in_ok-inner.inner ≡ h.distance (suc k) = stage_number (g.H.Chain.sound chain) h h.distance (k + 1) c.in_ok-inner.inner c.requires.parts.0 stage c.in_ok-inner.ensures ∙ ap h.distance (add-one k) in
-    let room = part_in n (length codes) k c.requires.stage.0 in
-    let fits : n * k + n ≤ length row = omega (arith, room, c.requires.stage.1.0) in
-    let span = n * k + n - n * k in
-    let width : n * k + n - n * k ≡ n = omega arith in
-    let part : length (take (n * k + n - n * k) (drop (n * k) row)) ≡ n = ap (λ (i : ℕ). length (take i (drop (n * k) row))) width ∙ length-take-le n (drop (n * k) row) (omega (arith, length-drop (n * k) row, fits)) in
-    let long : length c.choose.new.word ≡ n = c.choose.auto.word ∙ part in
-    let sound = subst g.A.Code.sound (sym c.index-codes-chosen.is) (All-get_or g.A.Code.sound codes k a c.requires.stage.0 c.requires.parts.1) in
-    let es = c.estimate_columns.new.estimates in
-    let les : length es ≡ n = c.estimate_columns.auto.estimates ∙ room_long n c.requires.columns.1 in
-    let each = c.in_ok-estimate_columns.ensures in
-    let is = model_at model codes k a c.requires.stage.0 c.index-codes-chosen.is in
-    (c.new.ensures ∙ ap (λ (i : ℕ). fault NoCodeword Code i) (add-one k), stage_without h cs laws c.requires.parts.2 c.args.word.now c.args.marks.now n c.requires.columns.0 k row c.requires.stage.1.1 few es les each (model a) is c.in_ok-inner.inner distance fits span width c.choose.new.word long (Ok c.in_ok-choose.field-0) (c.in_ok-choose.ensures.sound sound) (ap Ok c.in-None.is))
+    let after = (goal.at.returns-in-None g c).After-choose in
+    let none = subst (Outcome g after) (ap Ok c.in-None.is) (outcome g after (Ok c.in_ok-choose.field-0) c.in_ok-choose.ensures.sound) in
+    (c.new.ensures ∙ ap (λ (i : ℕ). fault NoCodeword Code i) (add-one c.args.chosen), none)

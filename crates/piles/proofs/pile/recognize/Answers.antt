@@ -1,4 +1,4 @@
-use Rattle.std.proofs.Common.{◌≡◌, ℕ, ◌*◌, ◌<◌, ◌≤◌, List, map, length, Ok, Err, Result, sym, ap, ◌∙◌, subst, mul-le-mul, arith, MatchResult}
+use Rattle.std.proofs.Common.{◌≡◌, ℕ, ◌*◌, ◌<◌, ◌≤◌, List, map, length, Ok, Err, Result, sym, ap, ◌∙◌, subst, arith, MatchResult}
 use Rattle.std.proofs.lemmas.List.{length-replicate}
 use Rattle.words.specs.declared.fault.Fault.{Fault}
 use Rattle.words.specs.declared.fault.Kind.TheVariants.{NoCodeword}
@@ -9,7 +9,7 @@ use Rattle.chains.specs.Model.{Cells}
 use Rattle.codes.specs.Model.{CodeModel}
 use Rattle.pile_laws.specs.Build.{columns}
 use Rattle.pile_laws.proofs.Exact.{exact_parts, exact_word, inexact_word, no_codeword}
-use Rattle.pile_laws.proofs.Scans.{codes_many, each_lawful, length_models}
+use Rattle.pile_laws.proofs.Scans.{each_lawful, length_models, room_for}
 use Rattle.piles.specs.Decoding.{Recognizes}
 use Rattle.piles.proofs.pile.recognize.Goals as goal
 
@@ -21,8 +21,7 @@ find-requires g c =
     let law = g.met.H.Chain.lawful chain c.requires.parts.0 in
     let n = c.args.columns in
     let word = c.args.word.now in
-    let few : length codes ≤ 5 = omega (arith, codes_many g.A.Code.model codes h c.requires.parts.2, law.few_stages) in
-    let room = mul-le-mul {n₁ = n} {m₁ = length codes} {n₂ = 4096} {m₂ = 5} c.requires.columns.1 few in
+    let room = room_for g.A.Code.model codes h law c.requires.parts.2 n c.requires.columns.1 in
     let clear : Cells (h.breadth * n) c.args.marks.now = subst (Cells (h.breadth * n)) (sym c.requires.word.1.0) (length-replicate (length word) 0 ∙ c.requires.word.0.0, all_replicate (λ x. x < 2) (length word) 0 (omega arith)) in
     record {
       parts = c.requires.parts;
@@ -51,8 +50,11 @@ returns-in-Ok g c =
     let exact = exact_word h law cs laws c.requires.parts.2 word marks c.requires.word.1.0 lw n c.requires.columns.0 (length codes) all row c.find.new.found c.in-Ok.harm found.0 found.1 found.2 long in
     let parts = exact_parts h law cs laws c.requires.parts.2 word marks c.requires.word.1.0 lw n c.requires.columns.0 (length codes) all row c.find.new.found c.in-Ok.harm found.0 found.1 found.2 long in
     let inexact = inexact_word h law cs laws c.requires.parts.2 word marks c.requires.word.1.0 lw n c.requires.columns.0 (length codes) all row c.find.new.found c.in-Ok.harm found.0 found.1 found.2 long in
-    let by : (r : Result (Unit {0}) Fault) → MatchResult r (λ _. c.in-Ok.harm ≡ 0) (λ f. (c.in-Ok.harm ≡ 0 → ⊥) × (f ≡ fault NoCodeword Code 0)) → Recognizes h cs n (length codes) word row r = λ r. elim r as (λ q. MatchResult q (λ _. c.in-Ok.harm ≡ 0) (λ f. (c.in-Ok.harm ≡ 0 → ⊥) × (f ≡ fault NoCodeword Code 0)) → Recognizes h cs n (length codes) word row q) [ Ok t ↦ λ none. (exact none, parts) | Err f ↦ λ some. (some.1, inexact some.0) ] in
-    by c.check_exact.result c.check_exact.ensures
+    let Near = λ (q : Result (Unit {0}) Fault). MatchResult q (λ _. c.in-Ok.harm < 1) (λ f. (1 ≤ c.in-Ok.harm) × (f ≡ fault NoCodeword Code 0)) in
+    let none_left : c.in-Ok.harm < 1 → c.in-Ok.harm ≡ 0 = λ l. omega arith in
+    let some_left : 1 ≤ c.in-Ok.harm → c.in-Ok.harm ≡ 0 → ⊥ = λ l e. omega arith in
+    let by : (r : Result (Unit {0}) Fault) → Near r → Recognizes h cs n (length codes) word row r = λ r. elim r as (λ q. Near q → Recognizes h cs n (length codes) word row q) [ Ok t ↦ λ near. (exact (none_left near), parts) | Err f ↦ λ far. (far.1, inexact (some_left far.0)) ] in
+    by c.check_near.result c.check_near.ensures
 
 pub returns-in-Err : goal.returns-in-Err
 returns-in-Err g c =

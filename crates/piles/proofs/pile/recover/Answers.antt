@@ -1,4 +1,4 @@
-use Rattle.std.proofs.Common.{◌≡◌, ℕ, ◌*◌, ◌≤◌, List, map, length, replicate, Ok, Err, Result, MatchResult, sym, ap, ◌∙◌, subst, mul-le-mul, arith}
+use Rattle.std.proofs.Common.{◌≡◌, ℕ, ◌*◌, ◌≤◌, List, map, length, replicate, Ok, Err, Result, MatchResult, sym, ap, ◌∙◌, subst, arith}
 use Rattle.std.proofs.lemmas.List.{length-replicate, length-take-le, take-replicate}
 use Rattle.words.specs.declared.fault.Fault.{Fault}
 use Rattle.codes.specs.Model.{CodeModel}
@@ -11,7 +11,7 @@ use Rattle.pile_laws.specs.Pile.{pile}
 use Rattle.pile_laws.proofs.Fitting.{each_long, fitting}
 use Rattle.pile_laws.proofs.Messages.{EachMessage}
 use Rattle.pile_laws.proofs.Outcomes.{message_of_words}
-use Rattle.pile_laws.proofs.Scans.{codes_many}
+use Rattle.pile_laws.proofs.Scans.{few_codes, room_for}
 use Rattle.piles.proofs.pile.recover.Goals as goal
 
 pub recognize-requires : goal.recognize-requires
@@ -39,11 +39,10 @@ recover_stages-requires g c =
     let cs : List CodeModel = map model codes in
     let law = g.met.H.Chain.lawful chain c.requires.parts.0 in
     let n = c.count_columns-columns.result in
-    let few : length codes ≤ 5 = omega (arith, codes_many model codes h c.requires.parts.2, law.few_stages) in
-    let room = mul-le-mul {n₁ = n} {m₁ = length codes} {n₂ = 4096} {m₂ = 5} c.count_columns-columns.ensures.bound few in
+    let room = room_for model codes h law c.requires.parts.2 n c.count_columns-columns.ensures.bound in
     let fit = word_fits (pile h cs) c.args.message.now c.args.word.now c.requires.word.0 in
     record {
-      codes = (c.requires.parts.1, (few, subst (λ (m : ℕ). EachLong m cs) (sym c.count_columns-columns.ensures.value) (each_long h (columns cs) 1 cs (fitting h cs c.requires.parts.2).0)));
+      codes = (c.requires.parts.1, (few_codes model codes h law c.requires.parts.2, subst (λ (m : ℕ). EachLong m cs) (sym c.count_columns-columns.ensures.value) (each_long h (columns cs) 1 cs (fitting h cs c.requires.parts.2).0)));
       words = (omega (arith, room, length-replicate {A = ℕ} 20480 0, c.recognize.auto.words), c.in_ok-recognize.ensures.1);
       room = fit.1;
     }

@@ -1,4 +1,4 @@
-use Rattle.std.proofs.Common.{◌≡◌, ℕ, ◌*◌, ◌≤◌, List, map, length, replicate, Ok, Err, sym, ap, ◌∙◌, subst, mul-le-mul, arith}
+use Rattle.std.proofs.Common.{◌≡◌, ℕ, ◌*◌, List, map, length, replicate, Ok, Err, sym, ap, ◌∙◌, subst, arith}
 use Rattle.std.proofs.lemmas.List.{length-replicate, length-take-le}
 use Rattle.words.specs.declared.fault.Fault.{Fault}
 use Rattle.words.proofs.Rises.{raised}
@@ -10,7 +10,7 @@ use Rattle.pile_laws.specs.Flat.{words_in}
 use Rattle.pile_laws.specs.Pile.{pile}
 use Rattle.pile_laws.proofs.Answers.{pile_answers, pile_refuses}
 use Rattle.pile_laws.proofs.Flat.{length_words_in}
-use Rattle.pile_laws.proofs.Scans.{codes_many, each_lawful, length_models}
+use Rattle.pile_laws.proofs.Scans.{each_lawful, length_models, room_for}
 use Rattle.piles.proofs.pile.replace.Goals as goal
 
 pub find-requires : goal.find-requires
@@ -22,8 +22,7 @@ find-requires g c =
     let law = g.met.H.Chain.lawful chain c.requires.parts.0 in
     let n = c.count_columns-columns.result in
     let cells : h.breadth * columns (map model codes) ≡ h.breadth * n = ap (λ (m : ℕ). h.breadth * m) (sym c.count_columns-columns.ensures.value) in
-    let few : length codes ≤ 5 = omega (arith, codes_many model codes h c.requires.parts.2, law.few_stages) in
-    let room = mul-le-mul {n₁ = n} {m₁ = length codes} {n₂ = 4096} {m₂ = 5} c.count_columns-columns.ensures.bound few in
+    let room = room_for model codes h law c.requires.parts.2 n c.count_columns-columns.ensures.bound in
     let fit = damage_fits (pile h (map model codes)) c.args.word.now c.args.marks.now c.requires.word.0 in
     record {
       parts = c.requires.parts;
