@@ -34,7 +34,7 @@ fn number_at(bytes: &[u8], at: usize) -> usize
     requires { at + 1 < length bytes.now }
     ensures { result ≡ two_bytes bytes.now at }
 {
-    256 * usize::from(bytes[at]) + usize::from(bytes[at + 1])
+    usize::from(u16::from_be_bytes([bytes[at], bytes[at + 1]]))
 }
 
 pub(crate) fn read_chain(bytes: &[u8]) -> Result<ChainKind, Fault>

@@ -65,6 +65,7 @@ impl ChainKind {
         }
     }
 
+    // That r and n are in range stands in each contract, since an enum has no ghost field.
     pub(crate) fn cells(self) -> usize
         requires { Known self }
         ensures { result ≡ cells_of self }
@@ -108,7 +109,7 @@ impl ChainKind {
 }
 
 impl CodeKind {
-    /// The kind of code that a stage's first byte names at a label width.
+    /// The kind of code that a stage's first byte names at a label width, which TryFrom has no place for.
     pub fn named(byte: u8, width: usize) -> Option<Self>
         ensures { result ≡ code_named byte width }
     {

@@ -39,7 +39,7 @@ impl fmt::Display for Stage {
 }
 
 impl Stage {
-    // The record of a stage that the chain does not have.
+    // The record of a stage that the chain does not have. No Default, which would be public: only a table has such records.
     fn blank() -> Self
         ensures { result ≡ blank }
     {

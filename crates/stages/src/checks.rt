@@ -1,5 +1,5 @@
 // The checks of a stage's buffers, in the order estimates, word.
-ghost use Rattle.std.specs.Prelude.{◌≡◌, length};
+ghost use Rattle.std.specs.Prelude.{◌≡◌, length, not, position};
 ghost use Rattle.words.specs.Buffers.{checked, either};
 ghost use Rattle.stage_laws.specs.Promises.{length_refusal, fits_column, first_large};
 
@@ -7,6 +7,7 @@ use crate::columns::Columns;
 use chains::chain::Estimate;
 use words::fault::{Fault, Kind, Layer};
 
+// Not a buffer of words, since estimates are no bytes.
 fn check_length(len: usize, wanted: usize) -> Result<(), Fault>
     ensures { result ≡ checked (length_refusal wanted len) }
 {
@@ -25,15 +26,21 @@ fn fits(symbols: usize, inner: u8, estimate: Option<Estimate>) -> bool
 }
 
 impl Columns<'_> {
+    fn first_large(&self, symbols: usize) -> Option<usize>
+        ensures { result ≡ position (λ e. not (fits_column symbols self.now.inner e)) self.now.estimates.now }
+    {
+        self.estimates
+            .iter()
+            .position(|estimate| !fits(symbols, self.inner, *estimate))
+    }
+
     fn check_contents(&self, symbols: usize) -> Result<(), Fault>
         ensures { result ≡ checked (first_large symbols self.now.inner 0 self.now.estimates.now) }
     {
-        for (j, estimate) in self.estimates.iter().enumerate() {
-            if !fits(symbols, self.inner, *estimate) {
-                return Err(Fault::new(Kind::TooLarge, Layer::Pile, j));
-            }
+        match self.first_large(symbols) {
+            None => Ok(()),
+            Some(j) => Err(Fault::new(Kind::TooLarge, Layer::Pile, j)),
         }
-        Ok(())
     }
 
     /// The checks of a choice: lengths first, and then the least column that does not fit.

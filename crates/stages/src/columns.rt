@@ -24,6 +24,7 @@ fn mark_of(threshold: usize, estimate: Option<Estimate>) -> u8
     estimate.map_or(1, |e| u8::from(e.harm >= threshold))
 }
 
+// Two loops of three lines: one that is handed a closure would need a contract for what the closure answers.
 impl Columns<'_> {
     /// Writes the word that the code is handed.
     pub(crate) fn write_symbols(&self, word: &mut [u8])
