@@ -115,8 +115,8 @@ impl Products {
         self.rows[usize::from(a)][usize::from(b)]
     }
 
-    /// The element that gives one, by trying all; 255 where none does.
-    pub fn inverse(&self, a: u8) -> u8 {
-        (0..=255).find(|b| self.times(a, *b) == 1).unwrap_or(255)
+    /// The element that gives one, by trying all, if there is one.
+    pub fn inverse(&self, a: u8) -> Option<u8> {
+        (0..=255).find(|b| self.times(a, *b) == 1)
     }
 }

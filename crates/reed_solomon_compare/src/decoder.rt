@@ -30,6 +30,15 @@ fn push_powers(
     Ok(())
 }
 
+/// Moves the first row that is not zero in a column to the front. Answers whether there is one.
+fn find_pivot(rows: &mut [Vec<u8>], column: usize) -> bool {
+    let Some(first) = rows.iter().position(|row| cell(row, column) != 0) else {
+        return false;
+    };
+    rows.swap(0, first);
+    true
+}
+
 /// Makes a row zero in a column, by a multiple of the pivot, which is one there.
 fn clear(products: &Products, row: &mut [u8], pivot: &[u8], column: usize) {
     let factor = cell(row, column);
@@ -48,29 +57,20 @@ impl Matrix {
         }
     }
 
-    /// Moves the first row from `column` on that is not zero in that column to its place. Answers whether there is one.
-    fn find_pivot(&mut self, column: usize) -> bool {
-        for row in column..self.rows.len() {
-            if cell(&self.rows[row], column) != 0 {
-                self.rows.swap(column, row);
-                return true;
-            }
-        }
-        false
-    }
-
     /// Makes a column one in its own row and zero in the others, if a row is left for it.
     fn reduce(&mut self, products: &Products, column: usize) -> bool {
-        if !self.find_pivot(column) {
-            return false;
-        }
         let Some((above, rest)) = self.rows.split_at_mut_checked(column) else {
             return false;
         };
+        if !find_pivot(rest, column) {
+            return false;
+        }
         let Some((pivot, below)) = rest.split_first_mut() else {
             return false;
         };
-        let factor = products.inverse(cell(pivot, column));
+        let Some(factor) = products.inverse(cell(pivot, column)) else {
+            return false;
+        };
         for x in pivot.iter_mut() {
             *x = products.times(factor, *x);
         }
@@ -93,16 +93,19 @@ impl Matrix {
         None
     }
 
-    /// Coefficients, not all zero, of a sum of columns that is zero; none if there is no such sum.
-    fn relation(mut self, alloc: Global, products: &Products) -> Result<Vec<u8>, AllocError> {
-        let mut coefficients = Vec::new(alloc);
-        if let Some(dependent) = self.first_dependent(products) {
-            for row in self.rows.iter().take(dependent) {
-                coefficients.push(cell(row, dependent))?;
-            }
-            coefficients.push(1)?;
-        }
-        Ok(coefficients)
+    /// Coefficients, not all zero, of a sum of columns that is zero, if there is such a sum.
+    fn relation(
+        mut self,
+        alloc: Global,
+        products: &Products,
+    ) -> Result<Option<Vec<u8>>, AllocError> {
+        let Some(dependent) = self.first_dependent(products) else {
+            return Ok(None);
+        };
+        let above = self.rows.iter().take(dependent);
+        let mut coefficients: Vec<u8> = above.map(|row| cell(row, dependent)).collect(alloc)?;
+        coefficients.push(1)?;
+        Ok(Some(coefficients))
     }
 }
 
@@ -115,14 +118,11 @@ pub struct Reading {
 
 /// The symbols at the places that are not marked.
 pub fn readings(alloc: Global, word: &[u8], marks: &[u8]) -> Result<Vec<Reading>, AllocError> {
-    let mut readings = Vec::new(alloc);
-    for (place, (symbol, mark)) in (0..=255).zip(word.iter().zip(marks)) {
-        if *mark == 0 {
-            let symbol = *symbol;
-            readings.push(Reading { place, symbol })?;
-        }
-    }
-    Ok(readings)
+    (0..=255)
+        .zip(word.iter().copied().zip(marks))
+        .filter(|(_, (_, mark))| **mark == 0)
+        .map(|(place, (symbol, _))| Reading { place, symbol })
+        .collect(alloc)
 }
 
 /// Decodes words of a field by its products.
@@ -142,8 +142,13 @@ impl Decoder<'_> {
     }
 
     /// The coefficients of a polynomial e of t + 1 coefficients that vanishes at every wrong place, if at most t of the readings of a
-    /// word for k symbols are wrong.
-    fn locate(&self, k: usize, t: usize, readings: &[Reading]) -> Result<Vec<u8>, AllocError> {
+    /// word for k symbols are wrong. If more are, there may be none.
+    fn locate(
+        &self,
+        k: usize,
+        t: usize,
+        readings: &[Reading],
+    ) -> Result<Option<Vec<u8>>, AllocError> {
         let ahead = t.saturating_add(1);
         let behind = k.saturating_add(t);
         let mut matrix = Matrix::new(self.alloc, ahead.saturating_add(behind));
@@ -153,9 +158,11 @@ impl Decoder<'_> {
             push_powers(self.products, &mut row, behind, *place, 1)?;
             matrix.rows.push(row)?;
         }
-        let mut coefficients = matrix.relation(self.alloc, self.products)?;
+        let Some(mut coefficients) = matrix.relation(self.alloc, self.products)? else {
+            return Ok(None);
+        };
         coefficients.truncate(ahead);
-        Ok(coefficients)
+        Ok(Some(coefficients))
     }
 
     /// The first n values of the polynomial of k coefficients through the first k of some readings, if there are so many.
@@ -175,7 +182,9 @@ impl Decoder<'_> {
             row.push(*symbol)?;
             matrix.rows.push(row)?;
         }
-        let mut coefficients = matrix.relation(self.alloc, self.products)?;
+        let Some(mut coefficients) = matrix.relation(self.alloc, self.products)? else {
+            return Ok(None);
+        };
         coefficients.truncate(k);
         let values = (0..=255).take(n).map(|x| self.value(&coefficients, x));
         Ok(Some(values.collect(self.alloc)?))
@@ -189,13 +198,14 @@ impl Decoder<'_> {
         n: usize,
         all: &[Reading],
     ) -> Result<Option<Vec<u8>>, AllocError> {
-        let wrong = self.locate(k, t, all)?;
-        let mut right = Vec::new(self.alloc);
-        for reading in all {
-            if self.value(&wrong, reading.place) != 0 {
-                right.push(*reading)?;
-            }
-        }
+        let Some(wrong) = self.locate(k, t, all)? else {
+            return Ok(None);
+        };
+        let right: Vec<Reading> = all
+            .iter()
+            .copied()
+            .filter(|reading| self.value(&wrong, reading.place) != 0)
+            .collect(self.alloc)?;
         self.interpolate(k, n, &right)
     }
 
