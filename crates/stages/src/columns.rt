@@ -24,7 +24,8 @@ fn mark_of(threshold: usize, estimate: Option<Estimate>) -> u8
     estimate.map_or(1, |e| u8::from(e.harm >= threshold))
 }
 
-// Two loops of three lines: one that is handed a closure would need a contract for what the closure answers.
+// Two loops of three lines: one that is handed a closure would need a contract for what the closure answers. Each reads by
+// index, since nothing is known of what a zip of iter_mut wrote.
 impl Columns<'_> {
     /// Writes the word that the code is handed.
     pub(crate) fn write_symbols(&self, word: &mut [u8])
