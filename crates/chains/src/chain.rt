@@ -44,6 +44,7 @@ pub trait Chain {
 
     /// The label at a stage, and the harm, of the row that begins with the labels decided before it and lies nearer
     /// to the reading than the stage's distance. There is at most one, and `None` says that there is none.
+    // Cells and marks are two buffers, as the rules have them.
     fn estimate(
         &self,
         stage: usize,

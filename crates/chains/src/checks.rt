@@ -31,6 +31,7 @@ impl Frame<'_> {
         requires { length labels.now ≤ length self.now.widths.now }
         ensures { result ≡ checked (large_label (at_stage self.now.widths.now) 0 labels.now) }
     {
+        // The place of a width is that of its label: over a zip the proof must be told so at each turn.
         for (i, label) in labels.iter().enumerate() {
             if u16::from(*label) >= 1 << self.widths[i] {
                 return Err(Fault::new(Kind::TooLarge, Layer::Chain, i));

@@ -20,6 +20,8 @@ pub struct Even {
     ghost range: { EvenRange n },
 }
 
+// That a reading has n cells stands in each contract that needs it: it is a fact of the chain and of the reading, and neither
+// holds the other.
 impl Even {
     /// The chain of n cells, or a refusal where n is not from 2 to 9.
     pub fn new(n: u8) -> Result<Self, Fault>
@@ -174,6 +176,7 @@ impl Chain for Even {
         };
         frame.check_reading(stage, labels, cells, marks)?;
         let reading = Reading { cells, marks };
+        // Two stages with a rule each, which closures would say no more plainly.
         if stage == 1 {
             Ok(self.estimate_first(&reading))
         } else {

@@ -14,7 +14,7 @@ use crate::chain::{Chain, Estimate};
 use crate::checks::{Frame, check_stage};
 use crate::reading::Reading;
 use crate::tables::{number, subsets, widths};
-use words::bits::{spell, write_bits};
+use words::bits::{bit_at, spell, write_bits};
 use words::fault::{Fault, Kind, Layer};
 
 /// The Reed-Muller chain of 2^r cells, r from 1 to 4: r + 1 stages, of distance 1, 2, 4 and so on.
@@ -73,7 +73,7 @@ impl ReedMuller {
     {
         let mut rest = word;
         for t in 0..count {
-            rest = self.turn(t, bit_at(bits, count, t), rest);
+            rest = self.turn(t, u16::from(bit_at(bits, count - 1 - t)), rest);
         }
         rest
     }
@@ -172,6 +172,7 @@ impl ReedMuller {
         let widths = widths(self.r);
         let mut bits = 0;
         let mut count = 0;
+        // By index: over a zip the proof must be told at each turn which place it is at, and where the shorter ends.
         for (i, label) in labels.iter().enumerate() {
             bits = (bits << widths[i]) + u16::from(*label);
             count += usize::from(widths[i]);
@@ -200,15 +201,6 @@ struct Found {
     count: usize,
     bits: u16,
     harm: usize,
-}
-
-// The bit at place t of `count` bits.
-fn bit_at(bits: u16, count: usize, t: usize) -> u16
-    requires { (t < count) × (count ≤ 16) }
-    ensures is { result ≡ bits / 2 ^ (count - 1 - t) % 2 }
-    ensures small { result < 2 }
-{
-    (bits >> (count - 1 - t)) % 2
 }
 
 // A set of cells votes for b if it has no blank cell and the sum b.

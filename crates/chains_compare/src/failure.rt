@@ -4,7 +4,7 @@ use std::alloc::AllocError;
 use thiserror::Error;
 use words::fault::Fault;
 
-/// A chain's refusal, or no memory.
+/// A chain's refusal, or no memory. (The two comparisons share no library, and one for these lines would be no plainer.)
 #[derive(Debug, Drop, Error)]
 pub(crate) enum Failure {
     #[error("{0}")]

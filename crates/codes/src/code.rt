@@ -52,6 +52,7 @@ pub trait Code {
         ensures refused { (sound self.now → ⊥) → Refused (refuses self.now) result };
 
     /// Puts the codeword at harm below D in place of a word and answers that harm, or refuses where there is none.
+    // A word and its marks are two buffers, as the rules have them.
     fn correct(&self, word: &mut [u8], marks: &[u8]) -> Result<usize, Fault>
         ensures sound { sound self.now → Corrected (model self.now) word.old marks.now word.new result }
         ensures unsound { (sound self.now → ⊥) → (is_err result ≡ true) × (word.new ≡ word.old) }

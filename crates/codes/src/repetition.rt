@@ -1,6 +1,7 @@
 // The repetition code: one symbol, N times over.
+// The room to work in is arrays, cut to length, since libraries use no heap.
 ghost use Rattle.std.specs.Prelude.{◌≡◌, ℕ, ◌<◌, ◌≤◌, length, replicate, Ok, ◌==◌};
-ghost use Rattle.std.specs.List.{AllByRecursion, list_all};
+ghost use Rattle.std.specs.List.{All, list_all};
 ghost use Rattle.words.specs.Harm.{harm as harm_of};
 ghost use Rattle.codes.specs.Kinds.{repetition_code, readable_count, MostFrequent, Counted};
 ghost use Rattle.codes.specs.Making.{InRange, Made};
@@ -42,20 +43,8 @@ fn repeats(word: &[u8], symbol: u8) -> bool
     word.iter().all(|x| *x == symbol)
 }
 
-// Counts, for each symbol, the readable places that hold it.
-fn count_symbols(word: &[u8], marks: &[u8], counts: &mut [u16; 256])
-    requires { (length word.now ≤ 4096) × ((length marks.now ≡ length word.now) × (counts.old ≡ replicate 256 0)) }
-    ensures { Counted word.now marks.now counts.new }
-{
-    // By index: over a zip the invariant would speak of pairs of references.
-    for (i, symbol) in word.iter().enumerate() {
-        if marks[i] == 0 {
-            counts[usize::from(*symbol)] += 1;
-        }
-    }
-}
-
-// The least symbol whose count none exceeds.
+// The least symbol whose count none exceeds. A loop: `max_by_key` answers the last of the greatest, and `rev` before it
+// would hide which is wanted.
 fn pick(counts: &[u16]) -> usize
     requires { 0 < length counts.now }
     ensures { MostFrequent counts.now result }
@@ -69,22 +58,52 @@ fn pick(counts: &[u16]) -> usize
     best
 }
 
-// The least symbol, of so many, that no other exceeds in readable places.
-fn majority(word: &[u8], marks: &[u8], symbols: usize) -> u8
-    requires { (length word.now ≤ 4096) × ((length marks.now ≡ length word.now) × ((0 < symbols) × (symbols ≤ 256))) }
-    ensures { (result < symbols) × ((x : ℕ) → x < symbols → readable_count x word.now marks.now ≤ readable_count result word.now marks.now) }
-{
-    let mut counts = [0; 256];
-    count_symbols(word, marks, &mut counts);
-    pick(&counts[0..symbols]) as u8
+// A word to be corrected, and its marks. That a symbol is a byte is a fact of its own, since a proof knows no range of what a field borrows.
+#[derive(Clone, Copy)]
+struct Damaged<'a> {
+    word: &'a [u8],
+    marks: &'a [u8],
+    ghost short: { length word.now ≤ 4096 },
+    ghost paired: { length marks.now ≡ length word.now },
+    ghost symbols_small: { All (λ w. w < 256) word.now },
+    ghost marks_small: { All (λ m. m < 2) marks.now },
 }
 
-fn harm_against(word: &[u8], marks: &[u8], symbol: u8) -> Result<usize, Fault>
-    requires { (length word.now ≤ 4096) × ((length marks.now ≡ length word.now) × (AllByRecursion (λ m. m < 2) marks.now)) }
-    ensures { result ≡ Ok (harm_of word.now marks.now (replicate (length word.now) symbol)) }
-{
-    let codeword = [symbol; MOST_CELLS];
-    harm(Layer::Code, word, marks, &codeword[0..word.len()])
+impl Damaged<'_> {
+    // Counts, for each symbol, the readable places that hold it.
+    fn count_symbols(&self, counts: &mut [u16; 256])
+        requires { counts.old ≡ replicate 256 0 }
+        ensures { Counted self.now.word.now self.now.marks.now counts.new }
+    {
+        // By index: over a zip the proof is longer, which has to say at each turn where its pair stands.
+        for (i, symbol) in self.word.iter().enumerate() {
+            if self.marks[i] == 0 {
+                counts[usize::from(*symbol)] += 1;
+            }
+        }
+    }
+
+    // The least symbol, of so many, that no other exceeds in readable places.
+    fn majority(&self, symbols: usize) -> u8
+        requires { (0 < symbols) × (symbols ≤ 256) }
+        ensures { (result < symbols) × ((x : ℕ) → x < symbols → readable_count x self.now.word.now self.now.marks.now ≤ readable_count result self.now.word.now self.now.marks.now) }
+    {
+        let mut counts = [0; 256];
+        self.count_symbols(&mut counts);
+        pick(&counts[0..symbols]) as u8
+    }
+
+    fn harm_against(&self, symbol: u8) -> Result<usize, Fault>
+        ensures { result ≡ Ok (harm_of self.now.word.now self.now.marks.now (replicate (length self.now.word.now) symbol)) }
+    {
+        let codeword = [symbol; MOST_CELLS];
+        harm(
+            Layer::Code,
+            self.word,
+            self.marks,
+            &codeword[0..self.word.len()],
+        )
+    }
 }
 
 impl Code for Repetition {
@@ -136,8 +155,9 @@ impl Code for Repetition {
     fn correct(&self, word: &mut [u8], marks: &[u8]) -> Result<usize, Fault> {
         let parameters = self.parameters();
         parameters.check_correct(word, marks)?;
-        let symbol = majority(word, marks, parameters.symbols);
-        let found = harm_against(word, marks, symbol)?;
+        let damaged = Damaged { word, marks };
+        let symbol = damaged.majority(parameters.symbols);
+        let found = damaged.harm_against(symbol)?;
         check_near(found, self.size.len)?;
         word.fill(symbol);
         Ok(found)

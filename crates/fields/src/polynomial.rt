@@ -1,12 +1,13 @@
 // The polynomial fields.
-ghost use Rattle.std.specs.Prelude.{◌≡◌, ◌^◌, ◌≤◌};
-ghost use Rattle.field_laws.specs.Polynomials.{polynomial, modulus};
+ghost use Rattle.std.specs.Prelude.{◌≡◌, ◌+◌, ◌*◌, ◌^◌, ◌<◌, ◌≤◌, slice_index};
+ghost use Rattle.field_laws.specs.Polynomials.{polynomial, modulus, times};
 ghost use Rattle.fields.specs.Answers.{Makes};
 ghost use Rattle.field_laws.proofs.PolynomialLaws.{polynomial_laws};
+ghost use Rattle.field_laws.proofs.Tables.{logs, antilogs};
 
 use crate::field::Field;
 use crate::refusals::{element, elements, no_field};
-use crate::tables::{invert, multiply};
+use crate::tables::{ANTILOGS, LOGS};
 use words::fault::Fault;
 
 /// The polynomials that the fields of width 1 to 8 reduce by.
@@ -43,6 +44,45 @@ impl Polynomial {
     {
         1 << self.width
     }
+
+    /// How often 1 is doubled to get `a`.
+    fn log(&self, a: u8) -> usize
+        requires { a < 2 ^ self.now.width }
+        ensures { result ≡ slice_index logs (2 ^ self.now.width + a) }
+    {
+        LOGS[(1 << self.width) + a as usize] as usize
+    }
+
+    /// 1 doubled `i` times.
+    fn antilog(&self, i: usize) -> u8
+        requires { i < 2 * 2 ^ self.now.width }
+        ensures { result ≡ slice_index antilogs (2 * 2 ^ self.now.width + i) }
+    {
+        ANTILOGS[(2 << self.width) + i]
+    }
+
+    /// The product of two elements: the logs add up.
+    fn multiply(&self, a: u8, b: u8) -> u8
+        requires { (a < 2 ^ self.now.width) × (b < 2 ^ self.now.width) }
+        ensures { result ≡ times self.now.width self.now.width a b }
+    {
+        if a == 0 || b == 0 {
+            return 0;
+        }
+        self.antilog(self.log(a) + self.log(b))
+    }
+
+    /// The inverse of an element: the two logs make up one whole round.
+    fn invert(&self, a: u8) -> Option<u8>
+        requires { a < 2 ^ self.now.width }
+        ensures { result ≡ (polynomial self.now.width).reciprocal a }
+    {
+        if a == 0 {
+            return None;
+        }
+        let round = self.size() - 1;
+        Some(self.antilog(round - self.log(a)))
+    }
 }
 
 impl Field for Polynomial {
@@ -67,11 +107,11 @@ impl Field for Polynomial {
 
     fn product(&self, a: u8, b: u8) -> Result<u8, Fault> {
         elements(self.size(), a, b)?;
-        Ok(multiply(self.width, a, b))
+        Ok(self.multiply(a, b))
     }
 
     fn inverse(&self, a: u8) -> Result<Option<u8>, Fault> {
         element(self.size(), a)?;
-        Ok(invert(self.width, a))
+        Ok(self.invert(a))
     }
 }

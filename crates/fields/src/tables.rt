@@ -1,11 +1,8 @@
 // The tables of the polynomial fields, all eight widths in one. The rows of width m begin at 2^m and at 2·2^m: each is as long as all
 // before it, so an array of rows would be padded to four times the length, and an array of slices would look up a slice for each number.
-ghost use Rattle.std.specs.Prelude.{◌≡◌, ◌+◌, ◌*◌, ◌^◌, ◌<◌, ◌≤◌, slice_index};
-ghost use Rattle.field_laws.specs.Polynomials.{polynomial, times};
-ghost use Rattle.field_laws.proofs.Tables.{logs, antilogs};
 
 /// At 2^m + a: how often 1 is doubled to get a.
-const LOGS: [u8; 512] = [
+pub(crate) const LOGS: [u8; 512] = [
     0, 0, 0, 0, 0, 0, 1, 2, 0, 0, 1, 3, 2, 6, 4, 5, 0, 0, 1, 4, 2, 8, 5, 10, 3, 14, 9, 7, 6, 13,
     11, 12, 0, 0, 1, 18, 2, 5, 19, 11, 3, 29, 6, 27, 20, 8, 12, 23, 4, 10, 30, 17, 7, 22, 28, 26,
     21, 25, 9, 16, 13, 14, 24, 15, 0, 0, 1, 6, 2, 12, 7, 26, 3, 32, 13, 35, 8, 48, 27, 18, 4, 24,
@@ -33,7 +30,7 @@ const LOGS: [u8; 512] = [
 ];
 
 /// At 2·2^m + i: 1 doubled i times, for two rounds, so that the sum of two logs needs no remainder.
-const ANTILOGS: [u8; 1024] = [
+pub(crate) const ANTILOGS: [u8; 1024] = [
     0, 0, 0, 0, 1, 1, 1, 1, 1, 2, 3, 1, 2, 3, 1, 2, 1, 2, 4, 3, 6, 7, 5, 1, 2, 4, 3, 6, 7, 5, 1, 2,
     1, 2, 4, 8, 3, 6, 12, 11, 5, 10, 7, 14, 15, 13, 9, 1, 2, 4, 8, 3, 6, 12, 11, 5, 10, 7, 14, 15,
     13, 9, 1, 2, 1, 2, 4, 8, 16, 5, 10, 20, 13, 26, 17, 7, 14, 28, 29, 31, 27, 19, 3, 6, 12, 24,
@@ -82,46 +79,3 @@ const ANTILOGS: [u8; 1024] = [
     144, 61, 122, 244, 245, 247, 243, 251, 235, 203, 139, 11, 22, 44, 88, 176, 125, 250, 233, 207,
     131, 27, 54, 108, 216, 173, 71, 142, 1, 2,
 ];
-
-/// How often 1 is doubled to get `a`.
-fn log(width: u8, a: u8) -> usize
-    requires width_bound { width ≤ 8 }
-    requires a_bound { a < 2 ^ width }
-    ensures { result ≡ slice_index logs (2 ^ width + a) }
-{
-    LOGS[(1 << width) + a as usize] as usize
-}
-
-/// 1 doubled `i` times.
-fn antilog(width: u8, i: usize) -> u8
-    requires width_bound { width ≤ 8 }
-    requires i_bound { i < 2 * 2 ^ width }
-    ensures { result ≡ slice_index antilogs (2 * 2 ^ width + i) }
-{
-    ANTILOGS[(2 << width) + i]
-}
-
-/// The product of two elements: the logs add up.
-pub(crate) fn multiply(width: u8, a: u8, b: u8) -> u8
-    requires width_range { (1 ≤ width) × (width ≤ 8) }
-    requires operands { (a < 2 ^ width) × (b < 2 ^ width) }
-    ensures { result ≡ times width width a b }
-{
-    if a == 0 || b == 0 {
-        return 0;
-    }
-    antilog(width, log(width, a) + log(width, b))
-}
-
-/// The inverse of an element: the two logs make up one whole round.
-pub(crate) fn invert(width: u8, a: u8) -> Option<u8>
-    requires width_range { (1 ≤ width) × (width ≤ 8) }
-    requires operands { a < 2 ^ width }
-    ensures { result ≡ (polynomial width).reciprocal a }
-{
-    if a == 0 {
-        return None;
-    }
-    let round = (1 << width) - 1;
-    Some(antilog(width, round - log(width, a)))
-}

@@ -1,5 +1,6 @@
 // The grid: one byte a cell.
-// The grid and packed cells are no twins: what they have in common is in `checks` and `state`, and the rest says how each lays out its cells.
+// The grid and packed cells are two types over `checks` and `state`. One type over a layout would need a trait of layouts whose clauses say of
+// bytes what those of `Medium` say of pages.
 ghost use Rattle.std.specs.Prelude.{◌≡◌, ◌+◌, ◌*◌, ◌<◌, map, length, IfErr, MatchResult, slice_set};
 ghost use Rattle.words.specs.declared.fault.Kind.TheVariants.{UnfitMedium};
 ghost use Rattle.words.specs.declared.fault.Layer.TheVariants.{Medium as the_medium};
@@ -51,6 +52,7 @@ fn store(bytes: &mut [u8], cells: &[u8])
     requires { length cells.now ≡ length bytes.old }
     ensures { bytes.new ≡ put_bytes bytes.old cells.now }
 {
+    // By index into the cells: of what a zip of `iter_mut` writes nothing is proved.
     for (i, byte) in bytes.iter_mut().enumerate() {
         *byte = put_to(*byte, cells[i]);
     }

@@ -34,6 +34,7 @@ pub trait Medium {
         ensures { sound self.now → result ≡ (model self.now).breadth };
 
     /// Gives a page's cells and marks; a blank cell is 0 with the mark 1.
+    // Cells and marks are two buffers, as the rules have them.
     fn fetch(&mut self, page: usize, cells: &mut [u8], marks: &mut [u8]) -> Result<(), Fault>
         ensures called { Called (sound self.old) (sound self.new) (refuses self.old) (Fetched (model self.old) (model self.new) page cells.old marks.old cells.new marks.new result) (Unchanged (model self.old) (model self.new) × (cells.new ≡ cells.old) × (marks.new ≡ marks.old)) result }
         ensures lender { lender self.new ≡ lender self.old };

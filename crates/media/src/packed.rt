@@ -92,6 +92,7 @@ fn show(bytes: &[u8], first: Place, cells: &mut [u8], marks: &mut [u8])
     ensures cells { cells.new ≡ map (λ i. value_of (cell_at bytes.now first.value first.mark i)) (range_with_len 0 (length cells.old)) }
     ensures marks { marks.new ≡ map (λ i. mark_of (cell_at bytes.now first.value first.mark i)) (range_with_len 0 (length cells.old)) }
 {
+    // The marks by index, since of what a zip of `iter_mut` writes nothing is proved.
     for (i, cell) in cells.iter_mut().enumerate() {
         let state = state(bytes, first.further(i));
         *cell = state.value();
@@ -193,6 +194,7 @@ impl Medium for Packed<'_> {
         self.breadth
     }
 
+    // The trait's own clauses stand here again for the sake of `bytes`, as in the grid.
     fn fetch(&mut self, page: usize, cells: &mut [u8], marks: &mut [u8]) -> Result<(), Fault>
         ensures called { Called (PackedSound self.old) (PackedSound self.new) (PackedRefuses self.old) (Fetched (packed_of self.old) (packed_of self.new) page cells.old marks.old cells.new marks.new result) (Unchanged (packed_of self.old) (packed_of self.new) × (cells.new ≡ cells.old) × (marks.new ≡ marks.old)) result }
         ensures lender { self.new.bytes.ghost_name ≡ self.old.bytes.ghost_name }

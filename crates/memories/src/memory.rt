@@ -1,4 +1,5 @@
 // A medium and a code as one.
+// That the two are joined stands in each contract: such a fact may have several proofs, which a ghost field refuses.
 ghost use Rattle.std.specs.Prelude.{◌≡◌};
 ghost use Rattle.memory_laws.specs.Calls.{Written, Recalled, Patrolled, WornPage};
 ghost use Rattle.memories.specs.Promises.{Called, Joined};

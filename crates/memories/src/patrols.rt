@@ -1,4 +1,5 @@
 // Patrols of a page of a medium that the code fits.
+// The room to work in is arrays, cut to length, since libraries use no heap.
 ghost use Rattle.memory_laws.specs.Calls.{Patrolled, paged};
 ghost use Rattle.memories.specs.Promises.{Done, Joined, Kept};
 

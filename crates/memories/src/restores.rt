@@ -1,4 +1,5 @@
 // A page corrected to a codeword and its message.
+// The room to work in is arrays, cut to length, since libraries use no heap.
 ghost use Rattle.std.specs.Prelude.{◌≡◌, ◌<◌, replicate};
 ghost use Rattle.media_laws.specs.Model.{Unchanged};
 ghost use Rattle.memory_laws.specs.Calls.{Restored};

@@ -1,4 +1,5 @@
 // Writes to a page of a medium that the code fits.
+// The room to work in is arrays, cut to length, since libraries use no heap.
 ghost use Rattle.memory_laws.specs.Calls.{Written, paged};
 ghost use Rattle.memories.specs.Promises.{Done, Joined, Kept};
 

@@ -1,5 +1,5 @@
 // The columns of a pile: the labels that the stages' codewords have in one, and the cells that they stand for. The codewords lie
-// one behind the other in one row.
+// one behind the other in one row; how long each is is the number of columns, which belongs to the pile and not to the row.
 ghost use Rattle.std.specs.Prelude.{◌≡◌, ℕ, ◌*◌, ◌<◌, ◌≤◌, length, MatchResult};
 ghost use Rattle.chains.specs.Model.{Row};
 ghost use Rattle.pile_laws.specs.Build.{labels_at, laid};

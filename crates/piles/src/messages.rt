@@ -16,6 +16,7 @@ fn read_symbols(bits: &[u8], width: usize, symbols: &mut [u8])
     requires { (width ≤ 8) × ((length bits.now ≡ length symbols.old * width) × (AllByRecursion (λ b. b < 2) bits.now)) }
     ensures { symbols.new ≡ symbols_of width (length symbols.old) bits.now }
 {
+    // By index: of what a zip of `iter_mut` wrote, a proof knows nothing afterwards.
     for (i, symbol) in symbols.iter_mut().enumerate() {
         let start = i * width;
         *symbol = spell(&bits[start..start + width]) as u8;

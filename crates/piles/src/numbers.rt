@@ -1,6 +1,4 @@
-// The numbers of a pile whose parts are sound and fit: message bits and reach. The chain and the codes are handed on side by
-// side, and that they are sound stands in each contract: `new` asks these before there is a pile, and what is sound may have
-// several proofs, which a ghost field refuses.
+// The numbers of a pile whose parts are sound and fit: message bits and reach.
 ghost use Rattle.std.specs.Prelude.{◌≡◌, ◌*◌, ◌≤◌, map, length, MatchResult};
 ghost use Rattle.std.specs.List.{AllByRecursion};
 ghost use Rattle.chains.specs.Model.{Stage};
@@ -20,12 +18,13 @@ pub(crate) fn bits_of<A: Code>(code: &A) -> usize
     code.message_len() * code.width()
 }
 
-/// K: the bits of a pile's message. Recipes count the same over their records, before there is a code to ask; a theorem of
-/// recipe_piles says that both agree.
+/// K: the bits of a pile's message. Recipes count these and the reach over their records, before there is a code to ask;
+/// recipe_piles promises that both agree.
 pub(crate) fn count_bits<A: Code>(codes: &[A]) -> usize
     requires { (AllByRecursion A.Code.sound codes.now) × (length codes.now ≤ 5) }
     ensures { result ≡ total_bits (map A.Code.model codes.now) }
 {
+    // No sum of a chain: that each code is sound would have to be handed to its closure at each turn.
     let mut bits = 0;
     for code in codes {
         bits += bits_of(code);
@@ -47,6 +46,7 @@ pub(crate) fn least_reach<H: Chain, A: Code>(chain: &H, codes: &[A]) -> Result<u
     requires { (H.Chain.sound chain.now) × ((AllByRecursion A.Code.sound codes.now) × (Fits (H.Chain.model chain.now) (map A.Code.model codes.now))) }
     ensures { MatchResult result (λ d. d ≡ reach_of (H.Chain.model chain.now) (map A.Code.model codes.now)) (λ _. ⊥) }
 {
+    // No fold, since each reach may be refused; it begins with that of stage 1, which bounds the least.
     let mut reach = stage_reach(chain, &codes[0], 1)?;
     for (i, code) in codes.iter().enumerate() {
         reach = reach.min(stage_reach(chain, code, i + 1)?);

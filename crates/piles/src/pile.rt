@@ -1,29 +1,26 @@
 // A pile of a chain and its codes.
-ghost use Rattle.std.specs.Prelude.{◌≡◌, ◌*◌, ◌≤◌, map, length, take, replicate, None, true, is_err, IfErr, MatchResult, OnOk, ◌≢◌};
-ghost use Rattle.words.specs.declared.fault.Kind.TheVariants.{NoCodeword};
+ghost use Rattle.std.specs.Prelude.{◌≡◌, ◌*◌, ◌≤◌, map, length, take, None, true, is_err, IfErr, MatchResult, OnOk};
 ghost use Rattle.words.specs.declared.fault.Layer.TheVariants.{Code as the_code};
 ghost use Rattle.words.specs.Buffers.{refusal};
 ghost use Rattle.words.specs.Faults.{fault};
-ghost use Rattle.chains.specs.Model.{Cells};
 ghost use Rattle.codes.specs.Model.{Lawful, Message, OnlyOneNear};
 ghost use Rattle.codes.specs.Parameters.{parameters_of};
-ghost use Rattle.codes.specs.Promises.{Corrected, Encoded, Recovered, Refused};
+ghost use Rattle.codes.specs.Promises.{Corrected, Recovered, Refused};
 ghost use Rattle.codes.proofs.Working.{correct_buffers, message_of_buffers};
 ghost use Rattle.pile_laws.specs.Build.{columns as columns_of, reach as reach_of};
 ghost use Rattle.pile_laws.specs.Pile.{pile};
-ghost use Rattle.piles.specs.Decoding.{Recognizes};
 ghost use Rattle.piles.specs.Sound.{SoundPile, RefusesPile};
 ghost use Rattle.pile_laws.proofs.Law.{pile_lawful};
 ghost use Rattle.pile_laws.proofs.Scans.{each_lawful};
 
-use crate::choices::find;
+use crate::choices::Search;
 use crate::columns::lay_columns;
 use crate::fit::{check_parts, count_columns};
 use crate::messages::encode_stages;
 use crate::numbers::{count_bits, least_reach};
 use crate::recovery::recover_stages;
 use chains::chain::Chain;
-use codes::checks::{Parameters, check_near};
+use codes::checks::Parameters;
 use codes::code::Code;
 use words::fault::{Fault, Kind, Layer};
 use words::limits::{MOST_CELLS, MOST_STAGES};
@@ -122,27 +119,6 @@ fn write_codeword<H: Chain, A: Code>(
     lay_columns(chain, &words, columns, word)
 }
 
-/// Finds the stages' codewords of a word that is a codeword, and refuses any other word with 12 at place 0.
-fn recognize<H: Chain, A: Code>(
-    chain: &H,
-    codes: &[A],
-    columns: usize,
-    word: &[u8],
-    marks: &[u8],
-    words: &mut [u8],
-    found: &mut [u8],
-) -> Result<(), Fault>
-    requires parts { SoundPile (H.Chain.sound chain.now) (H.Chain.model chain.now) A.Code.model A.Code.sound codes.now }
-    requires columns { (columns ≡ columns_of (map A.Code.model codes.now)) × (columns ≤ 4096) }
-    requires word { (Cells ((H.Chain.model chain.now).breadth * columns) word.now) × ((marks.now ≡ replicate (length word.now) 0) × ((length found.old ≡ length word.now) × (20480 ≤ length words.old))) }
-    ensures { Recognizes (H.Chain.model chain.now) (map A.Code.model codes.now) columns (length codes.now) word.now words.new result }
-{
-    match find(chain, codes, columns, word, marks, words, found) {
-        Ok(harm) => check_near(harm, 1),
-        Err(_) => Err(Fault::new(Kind::NoCodeword, Layer::Code, 0)),
-    }
-}
-
 /// Writes the message of a codeword, and refuses any other word with 12 at place 0.
 fn recover<H: Chain, A: Code>(
     chain: &H,
@@ -159,15 +135,14 @@ fn recover<H: Chain, A: Code>(
     let mut words = [0; MOST_LABELS];
     let mut room = [0; MOST_CELLS];
     let found = &mut room[..word.len()];
-    recognize(
+    let search = Search {
         chain,
         codes,
         columns,
         word,
-        &marks[..word.len()],
-        &mut words,
-        found,
-    )?;
+        marks: &marks[..word.len()],
+    };
+    search.recognize(&mut words, found)?;
     recover_stages(codes, columns, &words, message)
 }
 
@@ -186,7 +161,14 @@ fn replace<H: Chain, A: Code>(
     let mut words = [0; MOST_LABELS];
     let mut room = [0; MOST_CELLS];
     let found = &mut room[..word.len()];
-    let harm = find(chain, codes, columns, word, marks, &mut words, found)?;
+    let search = Search {
+        chain,
+        codes,
+        columns,
+        word,
+        marks,
+    };
+    let harm = search.find(&mut words, found)?;
     word.copy_from_slice(found);
     Ok(harm)
 }
@@ -204,6 +186,7 @@ impl<H: Chain, A: Code> Code for Pile<H, A> {
 
     /// Refuses parts that are not sound or do not fit each other. A pile that passes is a lawful code: the codewords of different messages
     /// differ in at least as many cells as the reach, and a message is no longer than its codeword.
+    // The trait's own clauses stand here again for the sake of `lawful`, and at `correct` for the sake of `only`.
     fn check(&self) -> Result<(), Fault>
         ensures sound { MatchResult result (λ _. SoundPile (H.Chain.sound self.now.chain) (H.Chain.model self.now.chain) A.Code.model A.Code.sound (take self.now.used self.now.stages)) (λ _. SoundPile (H.Chain.sound self.now.chain) (H.Chain.model self.now.chain) A.Code.model A.Code.sound (take self.now.used self.now.stages) → ⊥) }
         ensures refused { IfErr result (RefusesPile (H.Chain.sound self.now.chain) (H.Chain.model self.now.chain) A.Code.model A.Code.sound A.Code.refuses (take self.now.used self.now.stages)) }
@@ -218,6 +201,8 @@ impl<H: Chain, A: Code> Code for Pile<H, A> {
     {
         1
     }
+
+    // Of a pile that is not sound the trait promises none of these three numbers.
 
     /// The cells of a codeword: a chain's cells for each column.
     fn len(&self) -> usize {

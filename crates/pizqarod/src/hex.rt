@@ -16,7 +16,8 @@ fn digit(b: u8) -> Option<u8>
     }
 }
 
-// Takes one more character of the text; false where none that goes on so is hexadecimal. The kit's hex knows no spaces between digits.
+// Takes one more character of the text, and answers whether what goes on so can be hexadecimal. The kit's hex knows no spaces
+// between digits.
 fn step(bytes: &mut Vec<u8>, high: &mut Option<u8>, b: u8) -> Result<bool, AllocError>
     requires { Waits high.old }
     ensures { IfOk result (λ read. MatchBool read (Waits high.new × Steps bytes.old.items high.old b bytes.new.items high.new) (Stops high.old b)) }

@@ -71,7 +71,8 @@ pub(crate) fn make_codes(stages: &[Stage]) -> Result<[StageCode; MOST_STAGES], F
 {
     let first = make_code(&stages[0])?;
     let mut codes = [first; MOST_STAGES];
-    // By index, since nothing is known of what a zip of iter_mut wrote.
+    // By index, since nothing is known of what a zip of iter_mut wrote. An array needs a value at each place: the first code
+    // stands in all until its own is made.
     for (i, stage) in stages.iter().enumerate() {
         codes[i] = make_code(stage)?;
     }

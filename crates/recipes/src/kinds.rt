@@ -65,7 +65,8 @@ impl ChainKind {
         }
     }
 
-    // That r and n are in range stands in each contract, since an enum has no ghost field.
+    // These are the numbers of the chain and the codes that a recipe names, counted before one is made; recipe_piles promises
+    // that both agree. That r and n are in range stands in each contract, since an enum has no ghost field.
     pub(crate) fn cells(self) -> usize
         requires { Known self }
         ensures { result ≡ cells_of self }

@@ -32,6 +32,7 @@ fn read_table(bytes: &[u8], chain: ChainKind, columns: usize) -> Result<Table, F
     Ok(table)
 }
 
+// A pile adds up and compares the same of its codes. Here there is no code to ask yet; recipe_piles promises that both agree.
 fn sum_bits(stages: &[Stage]) -> usize
     requires { (AllByRecursion Bounded stages.now) × (length stages.now ≤ 5) }
     ensures { result ≡ sum_by stage_bits stages.now }
@@ -102,7 +103,7 @@ impl Recipe {
         self.message_bits() / 8
     }
 
-    /// The reach, which is the distance of the pile: below it, harm is undone.
+    /// The reach, which is the distance of the pile: below it, harm is undone. A recipe has a stage, so that there is a least.
     pub fn reach(&self) -> usize
         ensures { result ≡ reach_of self.now.table }
     {

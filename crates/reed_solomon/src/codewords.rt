@@ -1,4 +1,5 @@
 // Writing the codeword of a message, and recognizing one.
+// Work space is arrays of 256, the most symbols that a word has, since the library has no heap.
 ghost use Rattle.std.specs.Prelude.{◌≡◌, ◌≤◌, length};
 ghost use Rattle.reed_solomon_laws.specs.Words.{reed_solomon};
 ghost use Rattle.reed_solomon.specs.Finding.{MessageOfKind, Recognized};

@@ -1,7 +1,8 @@
 // Arithmetic on elements of a sound field. There no call refuses, so each answer is there.
 //
 // That the field is sound stands in each contract, since no struct can hold it: a field's own fact may have several proofs, which a ghost
-// field refuses, and a truncated one gives no laws to the proofs about interpolation.
+// field refuses, and a truncated one gives no laws to the proofs about interpolation. That operands are elements stands in each too,
+// here and in the passes, the key equation and the interpolation: they are numbers handed in, others at each call, and no value holds them.
 ghost use Rattle.std.specs.Prelude.{◌≡◌, ◌<◌, Some, ◌≢◌};
 ghost use Rattle.field_laws.specs.Fields.{size as field_size};
 

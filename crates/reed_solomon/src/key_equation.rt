@@ -1,5 +1,7 @@
 // The key equation by values: polynomials q and e with q = t·e at every readable place outside the first choice, where t is
 // the error there over the product of the choice.
+//
+// Work space is arrays of 256, the most symbols that a word has, since the library has no heap.
 ghost use Rattle.std.specs.Prelude.{◌≡◌, ◌<◌, ◌≤◌, length, if◌then◌else◌, ◌≢◌};
 ghost use Rattle.field_laws.specs.Fields.{size as field_size};
 ghost use Rattle.reed_solomon_laws.proofs.Arrays.{Eliminated, Located, miss as missed};
@@ -98,6 +100,7 @@ fn mark_roots(marks: &[u8], e: &[u8], skip: &mut [u8])
     requires { (length e.now ≡ length marks.now) × (length skip.old ≡ length marks.now) }
     ensures { Skips (length marks.now) marks.now e.now skip.new }
 {
+    // By index into both: nothing is known of what a zip of `iter_mut` wrote.
     for (x, y) in skip.iter_mut().enumerate() {
         *y = u8::from(marks[x] != 0 || e[x] == 0);
     }

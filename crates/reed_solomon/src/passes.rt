@@ -37,6 +37,7 @@ pub(crate) fn combine<F: Field>(field: &F, a: u8, v: &mut [u8], b: u8, p: &[u8])
     requires { (F.sound field.now) × ((a < field_size (F.model field.now)) × ((b < field_size (F.model field.now)) × (Beside (F.model field.now) p.now v.old))) }
     ensures { Follows v.new (length p.now) (combination (F.model field.now) a v.old b p.now) }
 {
+    // By index into p: nothing is known of what a zip of `iter_mut` wrote.
     for (j, x) in v.iter_mut().enumerate() {
         *x = add(field, multiply(field, a, *x), multiply(field, b, p[j]));
     }

@@ -1,4 +1,5 @@
 // The search for the codeword that lies near to a word.
+// Work space is arrays of 256, the most symbols that a word has, since the library has no heap.
 ghost use Rattle.std.specs.Prelude.{◌≡◌, ◌+◌, ◌-◌, ◌≤◌, length};
 ghost use Rattle.reed_solomon.specs.Finding.{Received, Guessed, Found, Replaced};
 

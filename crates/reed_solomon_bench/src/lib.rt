@@ -21,6 +21,8 @@ fn correct(word: &mut [u8], marks: &[u8], message_len: usize) -> Result<usize, F
     code.correct(word, marks)
 }
 
+// C has no Option and no Result: a refusal is `false` or a number.
+
 #[unsafe(no_mangle)]
 pub extern "C" fn reed_solomon_encode(message: &[u8], word: &mut [u8]) -> bool {
     encode(message, word).is_ok()

@@ -7,7 +7,7 @@ use crate::columns::Columns;
 use chains::chain::Estimate;
 use words::fault::{Fault, Kind, Layer};
 
-// Not a buffer of words, since estimates are no bytes.
+// Words have this as a method of a buffer of bytes. One of a length alone would be these lines, with a layer to be handed in.
 fn check_length(len: usize, wanted: usize) -> Result<(), Fault>
     ensures { result ≡ checked (length_refusal wanted len) }
 {

@@ -11,8 +11,8 @@ pub fn spell(bits: &[u8]) -> u16
     })
 }
 
-// The bit of a number that counts 2 to the power of `weight`.
-fn bit_at(number: u16, weight: usize) -> u8
+/// The bit of a number that counts 2 to the power of `weight`.
+pub fn bit_at(number: u16, weight: usize) -> u8
     ensures { result ≡ number / 2 ^ weight % 2 }
 {
     if weight < 16 {

@@ -57,7 +57,7 @@ impl Kind {
         self as u8
     }
 
-    /// The refusal in words.
+    /// The refusal in words: what Display prints, for callers that have no formatter.
     pub fn text(self) -> &'static str
         ensures { result.now ≡ kind_text self }
     {
@@ -85,7 +85,7 @@ impl Kind {
 }
 
 impl Layer {
-    /// The layer's name.
+    /// The layer's name: what Display prints, for callers that have no formatter.
     pub fn text(self) -> &'static str
         ensures { result.now ≡ layer_text self }
     {

@@ -1,7 +1,9 @@
-use Rattle.std.proofs.Common.{◌≡◌, ℕ, ◌*◌, ◌≤◌, List, map, length, replicate, Ok, Err, Result, MatchResult, sym, ap, ◌∙◌, subst, arith}
+use Rattle.std.proofs.Common.{◌≡◌, ℕ, ◌*◌, ◌<◌, ◌≤◌, List, map, length, take, replicate, Ok, Err, Result, MatchResult, sym, ap, ◌∙◌, subst, arith}
 use Rattle.std.proofs.lemmas.List.{length-replicate, length-take-le, take-replicate}
 use Rattle.words.specs.declared.fault.Fault.{Fault}
+use Rattle.chains.specs.Model.{Cells}
 use Rattle.codes.specs.Model.{CodeModel}
+use Rattle.codes.specs.Repeats.{all_replicate}
 use Rattle.codes.specs.Promises.{Recovered}
 use Rattle.codes.proofs.Working.{recovered, word_fits}
 use Rattle.pile_laws.specs.Build.{columns, encoded, joined_bits, laid}
@@ -18,16 +20,23 @@ pub recognize-requires : goal.recognize-requires
 recognize-requires g c =
     let model = g.A.Code.model in
     let codes = c.args.codes.now in
-    let h = g.H.Chain.model c.args.chain.now in
+    let chain = c.args.chain.now in
+    let h = g.H.Chain.model chain in
     let cs : List CodeModel = map model codes in
     let fit = word_fits (pile h cs) c.args.message.now c.args.word.now c.requires.word.0 in
     let word = c.args.word.now in
     let short : length word ≤ 4096 = c.requires.word.1.0 in
-    let cells : h.breadth * columns cs ≡ h.breadth * c.count_columns-columns.result = ap (λ (m : ℕ). h.breadth * m) (sym c.count_columns-columns.ensures.value) in
+    let n = c.count_columns-columns.result in
+    let cells : h.breadth * columns cs ≡ h.breadth * n = ap (λ (m : ℕ). h.breadth * m) (sym c.count_columns-columns.ensures.value) in
+    let room = room_for model codes h (g.met.H.Chain.lawful chain c.requires.parts.0) c.requires.parts.2 n c.count_columns-columns.ensures.bound in
+    let long : length word ≡ h.breadth * n = fit.0.0 ∙ cells in
+    let clear : take (length word) (replicate {A = ℕ} 4096 0) ≡ replicate (length word) 0 = take-replicate (length word) 4096 0 short in
+    let marks : Cells (h.breadth * n) (take (length word) (replicate {A = ℕ} 4096 0)) = subst (Cells (h.breadth * n)) (sym clear) (length-replicate (length word) 0 ∙ long, all_replicate (λ x. x < 2) (length word) 0 (omega arith)) in
     record {
-      parts = c.requires.parts;
-      columns = (c.count_columns-columns.ensures.value, c.count_columns-columns.ensures.bound);
-      word = ((fit.0.0 ∙ cells, fit.0.1), (take-replicate (length word) 4096 0 short, (length-take-le (length word) (replicate {A = ℕ} 4096 0) short, omega (arith, length-replicate {A = ℕ} 20480 0))));
+      search = record { parts = c.requires.parts; columns = c.count_columns-columns.ensures.value; few = c.count_columns-columns.ensures.bound; reads = ((long, fit.0.1), marks) };
+      clear = clear;
+      found = length-take-le (length word) (replicate {A = ℕ} 4096 0) short;
+      room = omega (arith, room, length-replicate {A = ℕ} 20480 0);
     }
 
 pub recover_stages-requires : goal.recover_stages-requires

@@ -25,9 +25,8 @@ find-requires g c =
     let room = room_for model codes h law c.requires.parts.2 n c.count_columns-columns.ensures.bound in
     let fit = damage_fits (pile h (map model codes)) c.args.word.now c.args.marks.now c.requires.word.0 in
     record {
-      parts = c.requires.parts;
-      columns = (c.count_columns-columns.ensures.value, c.count_columns-columns.ensures.bound);
-      word = (((fit.0.0 ∙ cells, fit.0.1), (fit.1.0 ∙ cells, fit.1.1)), length-take-le (length c.args.word.now) (replicate {A = ℕ} 4096 0) c.requires.word.1);
+      search = record { parts = c.requires.parts; columns = c.count_columns-columns.ensures.value; few = c.count_columns-columns.ensures.bound; reads = ((fit.0.0 ∙ cells, fit.0.1), (fit.1.0 ∙ cells, fit.1.1)) };
+      found = length-take-le (length c.args.word.now) (replicate {A = ℕ} 4096 0) c.requires.word.1;
       room = omega (arith, room, length-replicate {A = ℕ} 20480 0);
     }
 

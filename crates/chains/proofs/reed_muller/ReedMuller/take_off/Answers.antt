@@ -7,9 +7,6 @@ use Rattle.chains.proofs.MullerSteps.{columns_more, laid_none}
 use Rattle.chains.specs.Spelling.{length_bits, get_or_bits}
 use Rattle.chains.proofs.reed_muller.ReedMuller.take_off.Goals as goal
 
-pub bit_at-requires : goal.bit_at-requires
-bit_at-requires c = (c.loop-t-test.true, omega (arith, (muller_sizes c.args.self.now.r c.args.self.now.range).few_cells))
-
 pub turn-rest-requires : goal.turn-rest-requires
 turn-rest-requires c = (omega arith, c.loop-t.invariant.0)
 
@@ -19,7 +16,7 @@ loop-t-preserved c =
     let t = c.loop-t.t in
     let bits = bits_of c.args.count c.args.bits in
     let here = columns_more r c.args.self.now.range t (omega arith) in
-    let bit = drop_more bits t 0 (omega (arith, length_bits c.args.count c.args.bits)) ∙ ap (λ b. b ∷ drop (t + 1) bits) (get_or_bits c.args.count c.args.bits t c.loop-t-test.true ∙ sym c.bit_at.ensures.is) in
+    let bit = drop_more bits t 0 (omega (arith, length_bits c.args.count c.args.bits)) ∙ ap (λ b. b ∷ drop (t + 1) bits) (get_or_bits c.args.count c.args.bits t c.loop-t-test.true ∙ sym (c.from.ensures ∙ c.bit_at.ensures)) in
     let both = ap₂ (λ cs bs. laid cs bs (bits_of (2 ^ r) c.loop-t.rest)) here bit in
     (c.turn-rest.ensures.small, ap (laid (drop (t + 1) (columns r)) (drop (t + 1) bits)) c.turn-rest.ensures.is ∙ sym both ∙ c.loop-t.invariant.1)
 

@@ -7,8 +7,8 @@ use Rattle.codes.specs.Simple.{blank_harms, no_harm}
 use Rattle.codes.proofs.Working.{correct_passes, damage_fits, corrected, uncorrected}
 use Rattle.codes.proofs.open.OpenCode.correct.Goals as goal
 
-pub returns-then-contains : goal.returns-then-contains
-returns-then-contains c =
+pub returns-then-contains-clause-sound : goal.returns-then-contains-clause-sound
+returns-then-contains-clause-sound c =
     let size = c.args.self.now.size in
     let model = open_code size.width size.len in
     let word = c.args.word.now in
@@ -17,15 +17,11 @@ returns-then-contains c =
     let fit = damage_fits model word marks none in
     let blank = c.if-contains.ensures.cases in
     let set : get_or marks blank.0 0 ≢ 0 = λ e. let one = eqb-true _ _ (blank.2 0) in omega (arith, one, e) in
-    record {
-      sound = λ _. subst (λ f. Corrected model word marks word (Err f)) (sym c.new.ensures) (uncorrected model word marks 0 none refl
-          (λ u near. let harmed = blank_harms word marks u blank.0 (fit.1.0 ∙ sym fit.0.0) (near.0.0 ∙ sym fit.0.0) blank.1 set in omega (arith, harmed, near.1)));
-      unsound = λ no. absurd (no tt);
-      refused = λ no. absurd (no tt);
-    }
+    λ _. subst (λ f. Corrected model word marks word (Err f)) (sym c.new.ensures) (uncorrected model word marks 0 none refl
+    (λ u near. let harmed = blank_harms word marks u blank.0 (fit.1.0 ∙ sym fit.0.0) (near.0.0 ∙ sym fit.0.0) blank.1 set in omega (arith, harmed, near.1)))
 
-pub returns : goal.returns
-returns c =
+pub returns-clause-sound : goal.returns-clause-sound
+returns-clause-sound c =
     let size = c.args.self.now.size in
     let model = open_code size.width size.len in
     let word = c.args.word.now in
@@ -37,8 +33,4 @@ returns c =
     let other = eqb-false _ _ (c.if-contains.ensures.cases i 0 (omega arith) h) in
     omega (arith, small, other) in
     let clean = no_harm word marks (All-from_get_or (λ m. m ≡ 0) marks 0 unset) in
-    record {
-      sound = λ _. corrected model word marks word 0 none word (fit.0, omega (arith, clean)) refl (sym clean);
-      unsound = λ no. absurd (no tt);
-      refused = λ no. absurd (no tt);
-    }
+    λ _. corrected model word marks word 0 none word (fit.0, omega (arith, clean)) refl (sym clean)
