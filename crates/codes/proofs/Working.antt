@@ -1,22 +1,17 @@
 -- What a call owes once its buffers have passed. Assumes nothing.
-use Rattle.std.proofs.Common.{◌≡◌, ℕ, ◌*◌, ◌%◌, ◌^◌, ◌<◌, ◌≤◌, List, [], ◌∷◌, length, IsErrAnd, None, Ok, Err, Result, sym, refl, ap, ◌∙◌, subst, mod-eq_of_lt, one-mul, arith, pow_mono}
+use Rattle.std.proofs.Common.{◌≡◌, ℕ, ◌*◌, ◌%◌, ◌^◌, ◌<◌, ◌≤◌, List, [], ◌∷◌, length, None, Ok, Err, refl, ap, ◌∙◌, subst, mod-eq_of_lt, one-mul, arith, pow_mono}
 use Rattle.std.specs.List.{AllByRecursion}
-use Rattle.words.specs.declared.fault.Fault.{Fault}
 use Rattle.words.specs.declared.fault.Kind.TheVariants.{NoCodeword}
 use Rattle.words.specs.declared.fault.Layer.TheVariants.{Code}
 use Rattle.words.specs.Buffers.{Given, checked, refusal}
 use Rattle.words.specs.Faults.{fault}
 use Rattle.words.specs.Harm.{harm}
 use Rattle.words.proofs.Passes.{fits_from_none}
-use Rattle.words.proofs.Rises.{checked_ok, raised}
+use Rattle.words.proofs.Rises.{checked_ok}
 use Rattle.codes.specs.declared.checks.Parameters.{Parameters}
 use Rattle.codes.specs.Model.{CodeModel, Message, Near, Symbols}
 use Rattle.codes.specs.Parameters.{parameters_of}
-use Rattle.codes.specs.Promises.{values_below, written_to, marks_of, Recovered, Corrected, Refused}
-
--- the refusal of a code that is not sound rises through `?`
-pub unsound_raised : {X : Type 0} (refuses : Fault → Type 0) (r : Result X Fault) {f : Fault} → IsErrAnd r (λ x. x ≡ f) → refuses f → Refused refuses r
-unsound_raised {X} refuses r e h = subst (λ (q : Result X Fault). Refused refuses q) (sym (raised r e)) h
+use Rattle.codes.specs.Promises.{values_below, written_to, marks_of, Recovered, Corrected}
 
 -- the number of symbols as a program works it out
 pub shifted : (m : ℕ) → m ≤ 8 → 1 * 2 ^ m % 18446744073709551616 ≡ 2 ^ m

@@ -1,14 +1,9 @@
 -- A row that is filled from another, place by place. Assumes nothing.
-use Rattle.std.proofs.Common.{◌≡◌, ℕ, zero, suc, ◌+◌, ◌<◌, ◌≤◌, List, [], ◌∷◌, map, length, get_or, take, set, sym, refl, ap, ◌∙◌, subst, le_of_suc-le-suc, not-suc-le-zero, add-one, take_all}
-use Rattle.std.proofs.lemmas.List.Edits.{fill_by_more}
+use Rattle.std.proofs.Common.{◌≡◌, ℕ, zero, suc, ◌+◌, ◌<◌, ◌≤◌, List, [], ◌∷◌, map, length, get_or, take, set, sym, refl, ap, ◌∙◌, le_of_suc-le-suc, not-suc-le-zero, add-one, take_all}
 use Rattle.media_laws.specs.Grid.{put_byte, put_bytes}
 
 pub filled_all : (f : ℕ → ℕ) (xs ys : List ℕ) (i : ℕ) → length xs ≤ i → length ys ≤ i → take i ys ≡ map f (take i xs) → ys ≡ map f xs
 filled_all f xs ys i lx ly e = sym (take_all i ys ly) ∙ e ∙ ap (map f) (take_all i xs lx)
-
--- one more place of a row that is filled by a function of the place
-pub placed_more : (f : ℕ → ℕ) (xs : List ℕ) (i y : ℕ) → i < length xs → ((k : ℕ) → k < i → get_or xs k 0 ≡ f k) → y ≡ f i → (k : ℕ) → k < i + 1 → get_or (set xs i y) k 0 ≡ f k
-placed_more f xs i y l below is k lk = subst (λ (z : ℕ). get_or (set xs i z) k 0 ≡ f k) (sym is) (fill_by_more f xs i 0 l below k lk)
 
 pub put_none : (bytes : List ℕ) → bytes ≡ put_bytes bytes []
 put_none [] = refl

@@ -1,5 +1,5 @@
 -- A payload is gathered from the bits of a message, and its spare bits are looked through. Assumes nothing.
-use Rattle.std.proofs.Common.{◌≡◌, ℕ, zero, suc, ◌+◌, ◌-◌, Bool, false, eqb, Some, None, ◌*◌, ◌%◌, ◌^◌, ◌<◌, ◌≤◌, List, [], ◌∷◌, length, get_or, take, drop, sym, ap, ◌∙◌, ap₂, arith}
+use Rattle.std.proofs.Common.{◌≡◌, ℕ, zero, suc, ◌+◌, ◌-◌, Bool, false, eqb, Some, None, ◌*◌, ◌<◌, ◌≤◌, List, [], ◌∷◌, length, get_or, drop, sym, ap, ◌∙◌, ap₂, arith}
 use Rattle.std.specs.List.{AllByRecursion}
 use Rattle.std.proofs.ByRecursion.{All-from_get_or, All-get_or}
 use Rattle.std.specs.List.{position, position_or_len}
@@ -8,26 +8,7 @@ use Rattle.std.proofs.lemmas.List.Quantifiers.{position-Some}
 use Rattle.std.proofs.lemmas.List.Sums.{fails_before_first}
 use Rattle.std.proofs.lemmas.Bool.{eqb-true, eqb-false}
 use Rattle.std.proofs.lemmas.List.{get_or-drop, length-drop, drop-drop, nil_from_length}
-use Rattle.words.specs.Bits.{spelled}
-use Rattle.words.proofs.Spelling.{spelled_more, spelled_front}
 use Rattle.memory_laws.specs.Payload.{byte_at, bytes_of, page_bytes, FirstSpare, SpareClear}
-
--- eight bits spell the byte that they are gathered to
-pub byte_spelled : (bits : List ℕ) → 8 ≤ length bits → AllByRecursion (λ b. b < 2) bits → (spelled (take 8 bits) % 2 ^ 16 ≡ byte_at bits) × (byte_at bits < 256)
-byte_spelled bits long small =
-    let whole : spelled (take 8 bits) ≡ byte_at bits = omega (
-      arith,
-      spelled_more bits 0 (omega arith),
-      spelled_more bits 1 (omega arith),
-      spelled_more bits 2 (omega arith),
-      spelled_more bits 3 (omega arith),
-      spelled_more bits 4 (omega arith),
-      spelled_more bits 5 (omega arith),
-      spelled_more bits 6 (omega arith),
-      spelled_more bits 7 (omega arith),
-    ) in
-    let few = spelled_front bits 8 8 small (omega arith) long in
-    (omega (arith, whole, few), omega (arith, whole, few))
 
 pub bytes_from : (n : ℕ) (bytes bits : List ℕ) → length bytes ≡ n → ((k : ℕ) → k < n → get_or bytes k 0 ≡ byte_at (drop (8 * k) bits)) → bytes ≡ bytes_of n bits
 bytes_from zero bytes bits long each = nil_from_length bytes long

@@ -1,16 +1,15 @@
 -- A page is fetched, corrected and turned into a message. Assumes nothing.
-use Rattle.std.proofs.Common.{◌≡◌, ℕ, ◌^◌, ◌<◌, List, [], ◌∷◌, map, length, replicate, None, Ok, Err, Result, sym, refl, ap, ◌∙◌, subst, subst₂, inr, arith}
+use Rattle.std.proofs.Common.{◌≡◌, ℕ, ◌^◌, ◌<◌, List, [], ◌∷◌, map, length, replicate, None, Ok, Err, Result, sym, refl, ap, ◌∙◌, subst, subst₂, arith}
 use Rattle.std.specs.Result as results
 use Rattle.std.specs.List.{AllByRecursion}
 use Rattle.std.proofs.lemmas.List.{length-map}
 use Rattle.std.proofs.lemmas.Option.{MatchOption-at_none}
 use Rattle.std.proofs.lemmas.Bool.Decides.{nat_tests}
 use Rattle.words.specs.declared.fault.Fault.{Fault}
-use Rattle.words.specs.declared.fault.Kind.TheVariants.{NoCodeword, SpareBitSet}
-use Rattle.words.specs.declared.fault.Layer.TheVariants.{Code, Memory}
+use Rattle.words.specs.declared.fault.Kind.TheVariants.{NoCodeword}
+use Rattle.words.specs.declared.fault.Layer.TheVariants.{Code}
 use Rattle.words.specs.Buffers.{written_to}
-use Rattle.words.specs.Faults.{fault, on_page}
-use Rattle.words.specs.Harm.{harm}
+use Rattle.words.specs.Faults.{fault}
 use Rattle.words.proofs.Passes.{none_from_fits}
 use Rattle.codes.specs.Model.{CodeModel, Lawful, Message, Near}
 use Rattle.codes.specs.Promises.{Corrected, Recovered, symbols_of, marks_of}
@@ -18,7 +17,6 @@ use Rattle.media_laws.specs.Model.{MediumModel, LawfulMedium, value_of, mark_of,
 use Rattle.media.specs.Promises.{Fetched, Put, page_refusal}
 use Rattle.memory_laws.specs.Calls.{Joins, Restored, Recalled, Patrolled, word_of, page_harm, payload_refusal}
 use Rattle.memory_laws.specs.Calls as calls
-use Rattle.memory_laws.specs.Payload.{FirstSpare, SpareClear}
 use Rattle.memory_laws.proofs.Accepts.{fetch_accepts, put_accepts, unchanged_then_changed, fresh}
 
 value_small : (s : ℕ) → s < 3 → value_of s < 2
@@ -74,18 +72,6 @@ recovers c lc u word message message' r mu ew em w =
 -- what correct answered
 abbrev pub Nearest : MediumModel → CodeModel → ℕ → List ℕ → ℕ → Type 0
 Nearest m c p word h = (u : List ℕ) × Near c (word_of m p) (calls.marks_of m p) u × (word ≡ c.codeword u) × (h ≡ page_harm m p (c.codeword u))
-
-module _ (m : MediumModel) (c : CodeModel) (p : ℕ) (message word : List ℕ) (h : ℕ) (nearest : Nearest m c p word h) (is-message : Message c message) (its-word : c.codeword message ≡ word) where
-  near_message : Near c (word_of m p) (calls.marks_of m p) message
-  near_message = (is-message, subst (λ (xs : List ℕ). harm (word_of m p) (calls.marks_of m p) xs < c.distance) (sym (its-word ∙ nearest.2)) nearest.1.1)
-
-  pub restored_clear : SpareClear (length message) message → Restored m c p message word (Ok h)
-  restored_clear clear =
-      ((near_message, subst (λ (k : ℕ). SpareClear k message) is-message.0 clear), sym its-word, nearest.3 ∙ ap (page_harm m p) (sym nearest.2))
-
-  pub restored_spare : (f : Fault) → ((bit : ℕ) × (f ≡ fault SpareBitSet Memory bit) × FirstSpare (length message) message bit) → Restored m c p message word (Err f)
-  restored_spare f found =
-      inr (message, near_message, found.0, ap (λ x. on_page x p) found.1, subst (λ (k : ℕ). FirstSpare k message found.0) is-message.0 found.2)
 
 -- a call that restores its page, once its checks have passed
 module _ (m m' : MediumModel) (c : CodeModel) (p : ℕ) (same : Unchanged m m') (message word : List ℕ) where

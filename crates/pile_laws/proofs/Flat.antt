@@ -1,7 +1,7 @@
 -- Words that lie one behind the other in one row, and what a write to one of them leaves. Assumes nothing.
 use Rattle.std.proofs.Common.{◌≡◌, ℕ, suc, ◌+◌, ◌*◌, ◌<◌, ◌≤◌, List, [], ◌∷◌, ◌++◌, length, get_or, take, drop, sym, ap, ◌∙◌, ap₂, mul-le-mul_left, mul-suc, arith}
 use borrow.Rule.Slice.PartMut.{put_mid}
-use Rattle.std.proofs.lemmas.List.FromFn.{length-map-range_with_len, get_or-map-range_with_len, take-map-range_with_len, map-range_with_len_more}
+use Rattle.std.proofs.lemmas.List.FromFn.{length-map-range_with_len, get_or-map-range_with_len, map-range_with_len_more}
 use Rattle.std.proofs.lemmas.List.{drop_at, drop-take, ext_get_or, get_or-drop, get_or-map, get_or-take, length-map, length-take-le, take_at}
 use Rattle.std.proofs.lemmas.Slice.{take-put_mid_below}
 use Rattle.pile_laws.specs.Build.{labels_at}
@@ -14,9 +14,6 @@ module _ (n : ℕ) where
 
   pub words_in_at : (s k : ℕ) (row : List ℕ) → k < s → get_or (words_in n s row) k [] ≡ column n k row
   words_in_at s k row l = get_or-map-range_with_len (λ k. column n k row) 0 s k k [] l (omega arith)
-
-  pub take_words_in : (s k : ℕ) (row : List ℕ) → k ≤ s → take k (words_in n s row) ≡ words_in n k row
-  take_words_in s k row l = take-map-range_with_len (λ k. column n k row) 0 s k l
 
   pub words_in_more : (k : ℕ) (row : List ℕ) → words_in n (k + 1) row ≡ words_in n k row ++ (column n k row ∷ [])
   words_in_more k row = map-range_with_len_more (λ k. column n k row) 0 k k (omega arith)
@@ -60,10 +57,6 @@ module _ (n : ℕ) where
   gathered_labels s j row labels lj long each =
       ext_get_or 0 labels (labels_at (words_in n s row) j) (long ∙ sym (length-map (words_in n s row) (λ w. get_or w j 0) ∙ length_words_in s row))
       (λ k l. each k (omega arith) ∙ sym (label_in s k j row (omega arith) lj))
-
--- a label's place lies in the row
-pub place_in : (n s k j : ℕ) → k < s → j < n → n * k + j < n * s
-place_in n s k j lk lj = omega (arith, mul-suc n k, mul-le-mul_left {m = suc k} {n = s} n lk)
 
 pub part_in : (n s k : ℕ) → k < s → n * k + n ≤ n * s
 part_in n s k l = omega (arith, mul-suc n k, mul-le-mul_left {m = suc k} {n = s} n l)

@@ -3,7 +3,7 @@ use Rattle.std.proofs.Common.{◌≡◌, ℕ, suc, ◌+◌, ◌*◌, ◌<◌, �
 use borrow.Rule.Slice.PartMut.{put_mid}
 use Rattle.std.specs.List.{AllByRecursion}
 use Rattle.words.specs.declared.fault.Fault.{Fault}
-use Rattle.std.proofs.lemmas.List.{append_assoc, append-nil, take_all, take_more}
+use Rattle.std.proofs.lemmas.List.{append_assoc, append-nil, take_more}
 use Rattle.std.proofs.lemmas.Slice.{take-put_mid}
 use Rattle.chains.specs.Bits.{bits_of}
 use Rattle.codes.specs.Model.{CodeModel, Lawful, Message, Symbols}
@@ -82,13 +82,6 @@ module _ {A : Type 0} (model : A → CodeModel) (codes : List A) (n k : ℕ) (a 
       subst (λ (x : List ℕ). MessagesOf (map model (take (k + 1) codes)) (words_in n (k + 1) row) x) (sym bits_more)
       (subst (λ (ws : List (List ℕ)). MessagesOf (map model (take (k + 1) codes)) ws (take at bits ++ ys)) (sym (words_in_more n k row))
       (subst (λ (cs : List CodeModel). MessagesOf cs (words_in n k row ++ (column n k row ∷ [])) (take at bits ++ ys)) (sym codes-more) pushed))
-
-pub recovered_all : {A : Type 0} (model : A → CodeModel) (codes : List A) (n k at : ℕ) (row bits : List ℕ) → k ≡ length codes → length bits ≤ at → MessagesOf (map model (take k codes)) (words_in n k row) (take at bits) → MessagesOf (map model codes) (words_in n (length codes) row) bits
-recovered_all model codes n k at row bits all past inv =
-    let whole : take k codes ≡ codes = take_all k codes (omega arith) in
-    subst (λ (x : List ℕ). MessagesOf (map model codes) (words_in n (length codes) row) x) (take_all at bits past)
-    (subst (λ (j : ℕ). MessagesOf (map model codes) (words_in n j row) (take at bits)) all
-    (subst (λ (xs : List _). MessagesOf (map model xs) (words_in n k row) (take at bits)) whole inv))
 
 -- message-of finds the message of any codeword of a lawful code
 pub codeword_answer : (c : CodeModel) (word message message' : List ℕ) (r : Result (Unit {0}) Fault) → Lawful c → ((u : List ℕ) × Message c u × (c.codeword u ≡ word)) → length message ≡ c.message_len → AllByRecursion (λ x. x < 256) message → Recovered c word message message' r → (r ≡ Ok tt) × Message c message' × (c.codeword message' ≡ word)

@@ -1,13 +1,12 @@
 -- Codes of one type, gone through one by one. Assumes nothing.
-use Rattle.std.proofs.Common.{◌≡◌, ℕ, zero, suc, ◌+◌, ◌*◌, ◌<◌, ◌≤◌, min, true, false, leb, List, [], ◌∷◌, ◌++◌, map, length, get_or, take, drop, Some, None, sym, refl, ap, ◌∙◌, subst, ap₂, add-one, mul-le-mul, arith}
+use Rattle.std.proofs.Common.{◌≡◌, ℕ, zero, suc, ◌+◌, ◌*◌, ◌<◌, ◌≤◌, List, [], ◌∷◌, ◌++◌, map, length, get_or, take, drop, sym, refl, ap, ◌∙◌, subst, ap₂, mul-le-mul, arith}
 use borrow.Rule.Slice.PartMut.{put_mid}
 use Rattle.std.specs.List.{AllByRecursion}
-use Rattle.std.proofs.lemmas.List.{append_assoc, append-nil, drop_all, drop-drop, drop_more}
-use Rattle.std.proofs.lemmas.Bool.{cond-true, cond-false, le-leb, lt-leb}
+use Rattle.std.proofs.lemmas.List.{append_assoc, drop-drop, drop_more}
 use Rattle.chains.specs.Model.{ChainModel, LawfulChain}
 use Rattle.codes.specs.Model.{CodeModel, Lawful}
-use Rattle.pile_laws.specs.Build.{columns, least, reach, stage_bits, stage_reaches, stage_words, symbols, total_bits}
-use Rattle.pile_laws.specs.Fit.{EachLawful, EachLong, Fits, fits_stage, unfit_from}
+use Rattle.pile_laws.specs.Build.{columns, stage_bits, stage_words, symbols, total_bits}
+use Rattle.pile_laws.specs.Fit.{EachLawful, EachLong, Fits}
 use Rattle.pile_laws.specs.Flat.{words_in}
 use Rattle.pile_laws.specs.Stages.{no_code}
 use Rattle.pile_laws.proofs.Fitting.{fitting, fitting_length}
@@ -18,61 +17,15 @@ module _ {A : Type 0} (model : A → CodeModel) (codes : List A) (i : ℕ) where
   pub models_more : (a : A) → a ≡ get_or codes i a → i < length codes → map model (drop i codes) ≡ model a ∷ map model (drop (i + 1) codes)
   models_more a is l = ap (map model) (drop_more codes i a l) ∙ ap (λ x. model x ∷ map model (drop (i + 1) codes)) (sym is)
 
-  module _ (h : ChainModel) (n : ℕ) where
-    pub unfit_more : (a : A) → a ≡ get_or codes i a → i < length codes → fits_stage h n (i + 1) (model a) ≡ true → unfit_from h n (i + 1) (map model (drop i codes)) ≡ unfit_from h n (i + 1 + 1) (map model (drop (i + 1) codes))
-    unfit_more a is l fits =
-        ap (unfit_from h n (i + 1)) (models_more a is l)
-        ∙ cond-true (fits_stage h n (i + 1) (model a)) _ _ fits
-        ∙ ap (λ (m : ℕ). unfit_from h n m (map model (drop (i + 1) codes))) (sym (add-one (i + 1)))
-
-    pub unfit_found : (a : A) → a ≡ get_or codes i a → i < length codes → fits_stage h n (i + 1) (model a) ≡ false → unfit_from h n (i + 1) (map model (drop i codes)) ≡ Some (i + 1)
-    unfit_found a is l fits =
-        ap (unfit_from h n (i + 1)) (models_more a is l) ∙ cond-false (fits_stage h n (i + 1) (model a)) _ _ fits
-
-    pub unfit_missing : length codes ≤ i → i < h.stages → unfit_from h n (i + 1) (map model (drop i codes)) ≡ Some (i + 1)
-    unfit_missing past l =
-        ap (λ xs. unfit_from h n (i + 1) (map model xs)) (drop_all i codes past)
-        ∙ cond-true (leb (i + 1) h.stages) _ _ (le-leb (i + 1) h.stages (omega arith))
-
-    pub unfit_none : length codes ≤ i → h.stages ≤ i → unfit_from h n (i + 1) (map model (drop i codes)) ≡ None
-    unfit_none past l =
-        ap (λ xs. unfit_from h n (i + 1) (map model xs)) (drop_all i codes past)
-        ∙ cond-false (leb (i + 1) h.stages) _ _ (lt-leb (i + 1) h.stages (omega arith))
-
 -- the number of columns is the first code's length
 pub no_columns : {A : Type 0} (model : A → CodeModel) (codes : List A) → length codes ≡ 0 → columns (map model codes) ≡ 0
 no_columns model [] l = refl
 no_columns model (a ∷ codes) l = absurd (omega arith)
 
-pub first_columns : {A : Type 0} (model : A → CodeModel) (codes : List A) (a : A) → 0 < length codes → a ≡ get_or codes 0 a → columns (map model codes) ≡ (model a).len
-first_columns model [] a l is = absurd (omega arith)
-first_columns model (b ∷ codes) a l is = ap (λ x. (model x).len) (sym is)
-
 -- the message bits, code after code
 pub bits_more : {A : Type 0} (model : A → CodeModel) (codes : List A) (i : ℕ) (a : A) (so_far all here : ℕ) → a ≡ get_or codes i a → i < length codes → here ≡ stage_bits (model a) → so_far + total_bits (map model (drop i codes)) ≡ all → so_far + here + total_bits (map model (drop (i + 1) codes)) ≡ all
 bits_more model codes i a so_far all here is l e inv =
     omega (arith, ap total_bits (models_more model codes i a is l), e, inv)
-
-pub bits_all : {A : Type 0} (model : A → CodeModel) (codes : List A) (i so_far all : ℕ) → length codes ≤ i → so_far + total_bits (map model (drop i codes)) ≡ all → so_far ≡ all
-bits_all model codes i so_far all past inv = omega (arith, ap (λ xs. total_bits (map model xs)) (drop_all i codes past), inv)
-
--- the reach, stage after stage
-pub reach_begun : {A : Type 0} (model : A → CodeModel) (codes : List A) (h : ChainModel) (a : A) (x : ℕ) → a ≡ get_or codes 0 a → 0 < length codes → x ≡ h.distance 1 * (model a).distance → least x (stage_reaches h 1 (map model codes)) ≡ reach h (map model codes)
-reach_begun model [] h a x is l e = absurd (omega arith)
-reach_begun model (b ∷ codes) h a x is l e =
-    let first : x ≡ h.distance 1 * (model b).distance = e ∙ ap (λ c. h.distance 1 * (model c).distance) is in
-    let y = h.distance 1 * (model b).distance in
-    let same : min x y ≡ y = omega (arith, first) in
-    ap (λ (m : ℕ). least m (stage_reaches h 2 (map model codes))) same
-
-pub reach_more : {A : Type 0} (model : A → CodeModel) (codes : List A) (i : ℕ) (h : ChainModel) (a : A) (x y all : ℕ) → a ≡ get_or codes i a → i < length codes → y ≡ h.distance (i + 1) * (model a).distance → least x (stage_reaches h (i + 1) (map model (drop i codes))) ≡ all → least (min x y) (stage_reaches h (i + 1 + 1) (map model (drop (i + 1) codes))) ≡ all
-reach_more model codes i h a x y all is l e inv =
-    ap₂ (λ (m j : ℕ). least (min x m) (stage_reaches h j (map model (drop (i + 1) codes)))) e (add-one (i + 1))
-    ∙ sym (ap (λ cs. least x (stage_reaches h (i + 1) cs)) (models_more model codes i a is l))
-    ∙ inv
-
-pub reach_all : {A : Type 0} (model : A → CodeModel) (codes : List A) (i : ℕ) (h : ChainModel) (x all : ℕ) → length codes ≤ i → least x (stage_reaches h (i + 1) (map model (drop i codes))) ≡ all → x ≡ all
-reach_all model codes i h x all past inv = sym (ap (λ cs. least x (stage_reaches h (i + 1) (map model cs))) (drop_all i codes past)) ∙ inv
 
 pub length_models : {A : Type 0} (model : A → CodeModel) (codes : List A) → length (map model codes) ≡ length codes
 length_models model [] = refl
@@ -107,10 +60,6 @@ module _ {A : Type 0} (model : A → CodeModel) (codes : List A) (n k : ℕ) (a 
       ∙ ap (λ w. words_in n k row ++ (w ∷ stage_words rest (drop (stage_bits c) (drop at message)))) (e ∙ ap c.codeword front)
       ∙ sym (ap (λ cs. words_in n k row ++ stage_words cs (drop at message)) (models_more model codes k a is l))
       ∙ inv
-
-pub words_all : {A : Type 0} (model : A → CodeModel) (codes : List A) (n k : ℕ) (message row : List ℕ) (at : ℕ) (all : List (List ℕ)) → length codes ≤ k → words_in n k row ++ stage_words (map model (drop k codes)) (drop at message) ≡ all → words_in n k row ≡ all
-words_all model codes n k message row at all past inv =
-    sym (ap (λ cs. words_in n k row ++ stage_words (map model cs) (drop at message)) (drop_all k codes past) ∙ append-nil (words_in n k row)) ∙ inv
 
 -- parts that are sound are lawful
 pub each_lawful : {A : Type 0} (model : A → CodeModel) (sound : A → Type 0) (codes : List A) → ((a : A) → sound a → Lawful (model a)) → AllByRecursion sound codes → EachLawful (map model codes)

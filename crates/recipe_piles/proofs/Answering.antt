@@ -1,6 +1,6 @@
 -- What the codes of stages mean, one after the other. Assumes nothing.
-use Rattle.std.proofs.Common.{◌≡◌, ℕ, ◌+◌, ◌<◌, List, [], ◌∷◌, ◌++◌, map, length, get_or, take, set, sym, refl, ap, ◌∙◌, subst, ap₂, arith}
-use Rattle.std.proofs.lemmas.List.{take_all, take_more, take_more_set}
+use Rattle.std.proofs.Common.{◌≡◌, ℕ, ◌+◌, ◌<◌, List, [], ◌∷◌, ◌++◌, map, length, get_or, take, set, sym, refl, ap, ◌∙◌, subst, ap₂}
+use Rattle.std.proofs.lemmas.List.{take_more, take_more_set}
 use Rattle.field_laws.specs.Fields.{FieldModel}
 use Rattle.field_laws.specs.Polynomials.{polynomial}
 use Rattle.field_laws.specs.Extensions.{extension}
@@ -61,11 +61,6 @@ pub stages_more : (ss : List Stage) (cs : List StageCode) (i : ℕ) (c : StageCo
 stages_more ss cs i c ls lc have one =
     subst (λ xs. StagesHave (take (i + 1) ss) xs) (sym (take_more_set cs i c lc))
     (subst (λ xs. StagesHave xs (take i cs ++ (c ∷ []))) (sym (take_more ss i blank ls)) (stages_push (take i ss) (take i cs) (get_or ss i blank) c have one))
-
-pub stages_all : (ss : List Stage) (cs : List StageCode) (i : ℕ) → i ≡ length ss → StagesHave (take i ss) (take i cs) → StagesHave ss (take (length ss) cs)
-stages_all ss cs i e have =
-    subst (λ xs. StagesHave xs (take (length ss) cs)) (take_all (length ss) ss (omega arith))
-    (subst (λ (m : ℕ). StagesHave (take m ss) (take m cs)) e have)
 
 -- the parts that are made for a recipe
 pub parts_of : (t : Table) → ∥ Lawful t ∥₁ → (p : Parts) → IsChain (named_chain t.chain) p.chain → StagesHave (used_stages t) (codes_of p) → PartsOf t p

@@ -17,15 +17,12 @@ use Rattle.recipes.specs.Chains.{Known, cells_of, stages_of, width_at, distance_
 use Rattle.recipes.specs.Codes.{outer_distance}
 use Rattle.recipes.specs.Meaning.{stage_at, Lawful}
 use Rattle.recipes.specs.Stages.{blank}
-use Rattle.recipes.specs.Totals.{Bounded, used_stages, stage_bits, stage_reach}
+use Rattle.recipes.specs.Totals.{Bounded, used_stages, stage_bits}
 use Rattle.recipes.proofs.Filling.{few_columns, few_stages, message_within}
 use Rattle.recipes.proofs.Triangle.{width_small}
 
 pub bits_small : (s : Stage) → Bounded s → stage_bits s ≤ 32768
 bits_small s h = mul-le-mul h.1.1.0 h.0
-
-pub reach_small : (s : Stage) → Bounded s → stage_reach s ≤ 65536
-reach_small s h = mul-le-mul h.1.0 h.1.1.1
 
 distance_small : (chain : ChainKind) (i : ℕ) → Known chain → i < stages_of chain → distance_at chain i ≤ 16
 distance_small (ReedMuller r) i k l = pow_mono {i = i} {j = 4} (omega arith)

@@ -1,9 +1,6 @@
 -- Which rule is the first that is broken, as the stages are read. Assumes nothing.
-use Rattle.std.proofs.Common.{◌≡◌, ℕ, suc, ◌+◌, ◌-◌, ◌*◌, ◌<◌, ◌≤◌, true, false, cond, List, [], ◌∷◌, ◌++◌, length, Some, None, Option, sym, refl, ap, ◌∙◌, ap₂, add-one, arith, le-ltb, lt-ltb}
+use Rattle.std.proofs.Common.{◌≡◌, ℕ, suc, ◌+◌, ◌-◌, ◌*◌, ◌<◌, ◌≤◌, true, false, cond, List, [], ◌∷◌, ◌++◌, length, Some, None, Option, sym, refl, ap, ◌∙◌, add-one, arith, le-ltb}
 use Rattle.words.specs.declared.fault.Fault.{Fault}
-use Rattle.words.specs.declared.fault.Kind.TheVariants.{BytesLeftOver}
-use Rattle.words.specs.declared.fault.Layer.TheVariants.{Recipe}
-use Rattle.words.specs.Faults.{fault}
 use Rattle.words.specs.Buffers.{either}
 use Rattle.recipes.specs.declared.kinds.ChainKind.{ChainKind}
 use Rattle.recipes.specs.declared.kinds.CodeKind.{CodeKind}
@@ -31,8 +28,3 @@ module _ (b : List ℕ) (chain : ChainKind) where
   stage_passes i kind l named fits =
       let long : 4 + 3 * i ≤ length b = omega arith in
       rw (le-ltb (length b) (4 + 3 * i) long, le-ltb (length b) (6 + 3 * i) l, named, fits)
-
-  pub end_broken : (s i : ℕ) → i ≡ s → 3 + 3 * s < length b → first_broken (rules_from b chain (s - i) i) ≡ Some (fault BytesLeftOver Recipe (3 + 3 * s))
-  end_broken s i e l =
-      let none : s - i ≡ 0 = omega arith in
-      ap₂ (λ n k. first_broken (rules_from b chain n k)) none e ∙ ap (λ t. cond t (Some (fault BytesLeftOver Recipe (3 + 3 * s))) None) (lt-ltb (3 + 3 * s) (length b) l)

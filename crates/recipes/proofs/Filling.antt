@@ -1,6 +1,6 @@
 -- A table while its stages are read, one after the other. Assumes nothing.
-use Rattle.std.proofs.Common.{◌≡◌, ℕ, ◌+◌, ◌*◌, ◌<◌, ◌≤◌, true, ◌≢◌, List, length, get_or, set, replicate, sym, refl, ap, ◌∙◌, subst, subst₂, ⊎_elim, mul-le-mul_right, one-mul, arith, pow_pos}
-use Rattle.std.proofs.lemmas.List.{length-set, get_or-set_same, get_or-set_other, get_or-replicate, get_or_past}
+use Rattle.std.proofs.Common.{◌≡◌, ℕ, ◌+◌, ◌*◌, ◌<◌, ◌≤◌, true, ◌≢◌, List, length, get_or, set, sym, ap, ◌∙◌, subst, subst₂, ⊎_elim, mul-le-mul_right, one-mul, arith, pow_pos}
+use Rattle.std.proofs.lemmas.List.{length-set, get_or-set_same, get_or-set_other}
 use Rattle.std.proofs.lemmas.Bool.{cases_lt}
 use Rattle.std.proofs.lemmas.Bool.Decides.{nat_tests}
 use Rattle.recipes.specs.declared.kinds.ChainKind.{ChainKind}
@@ -41,14 +41,6 @@ message_within Open width n k h e = (grind (arith, nat_tests), grind (arith, nat
 message_within ReedSolomon width n k h e = (grind (arith, nat_tests), grind (arith, nat_tests))
 message_within Repetition width n k h e = (grind (arith, nat_tests), grind (arith, nat_tests))
 message_within ExtendedReedSolomon width n k h e = (grind (arith, nat_tests), grind (arith, nat_tests))
-
-all_blank : (j : ℕ) → get_or (replicate 5 blank) j blank ≡ blank
-all_blank j = ⊎_elim (λ l. get_or-replicate 5 j blank blank l) (λ l. get_or_past (replicate 5 blank) j blank l) (cases_lt j 5)
-
-pub filled_none : (b : List ℕ) (chain : ChainKind) (columns : ℕ) (t : Table) → t ≡ record { chain = chain; columns = columns; stages = replicate 5 blank } → Filled b chain columns 0 t
-filled_none b chain columns t e =
-    subst (λ (u : Table). Filled b chain columns 0 u) (sym e)
-    (record { chain_is = refl; columns_are = refl; five = refl; before = λ j l. absurd (omega arith); after = λ j l. all_blank j })
 
 module _ (b : List ℕ) (chain : ChainKind) (columns i : ℕ) (t u : Table) (s : Stage) where
   pub filled_more : i < 5 → Filled b chain columns i t → u.chain ≡ t.chain → u.columns ≡ t.columns → u.stages ≡ set t.stages i s → LawfulStage chain columns i s → SpelledStage b i s → Filled b chain columns (i + 1) u

@@ -1,5 +1,5 @@
 -- Numbers below the size of a lawful field as its elements, and their arithmetic. Assumes nothing.
-use Rattle.std.proofs.Common.{◌≡◌, ℕ, ◌<◌, ◌≤◌, true, false, eqb, ◌≢◌, ◌⊎◌, Some, None, sym, refl, ap, ◌∙◌, subst, ap₂, inl, inr, arith, pow_mono}
+use Rattle.std.proofs.Common.{◌≡◌, ℕ, ◌<◌, ◌≤◌, eqb, ◌≢◌, Some, None, sym, refl, ap, ◌∙◌, subst, ap₂, inl, inr, arith, pow_mono}
 use native.Mathlib.Decide.{dec_lt}
 use Rattle.algebra.specs.Field.{same}
 use Rattle.algebra.specs.Sums.{Injective}
@@ -28,12 +28,6 @@ module _ (f : FieldModel) (laws : FieldLaws f) where
   pub element_is : (a : ℕ) → a < size f → (element a).0 ≡ a
   unfolding element
   element_is a l = element_by_is a (dec_lt a (size f)) l
-
-  pub element_at : (a : ℕ) (l : a < size f) → element a ≡ (a, l)
-  element_at a l = element_path f _ _ (element_is a l)
-
-  pub number_is : (x : Element f) → element x.0 ≡ x
-  number_is x = element_path f _ _ (element_is x.0 x.1)
 
   pub same_number : (a b : ℕ) → a < size f → b < size f → element a ≡ element b → a ≡ b
   same_number a b la lb e = sym (element_is a la) ∙ ap (λ (x : Element f). x.0) e ∙ element_is b lb
@@ -66,15 +60,6 @@ module _ (f : FieldModel) (laws : FieldLaws f) where
       let t = laws.some_of_others a l apart in
       let is : t.0 ≡ i = cc t.2 in
       (apart, subst (λ (k : ℕ). k < size f) is t.1, subst (λ (k : ℕ). f.product a k ≡ 1) is t.3)
-
-  pub reciprocal_absent : (a : ℕ) → a < size f → f.reciprocal a ≡ None → a ≡ 0
-  reciprocal_absent a l e = by (cases_Bool (eqb a 0))
-    where
-      use_eq : eqb a 0 ≡ false → ⊥
-      use_eq ne = let t = laws.some_of_others a l (eqb-false a 0 ne) in let p = t.2 in let no_such : ◌≡◌ {A = ℕ} 0 1 = cc in omega arith
-
-      by : (eqb a 0 ≡ true) ⊎ (eqb a 0 ≡ false) → a ≡ 0
-      by = elim [ inl h ↦ eqb-true a 0 h | inr h ↦ absurd (use_eq h) ]
 
   pub element_inverse : (a i : ℕ) → a < size f → f.reciprocal a ≡ Some i → element i ≡ (field_of f laws).inv (element a)
   element_inverse a i l e =

@@ -1,8 +1,7 @@
 -- A scan for the first column that does not fit. Assumes nothing.
-use Rattle.std.proofs.Common.{◌≡◌, ℕ, suc, ◌+◌, cond, not, Bool, true, false, List, [], ◌∷◌, Some, None, Option, refl, sym, ap, ◌∙◌, add-one}
+use Rattle.std.proofs.Common.{◌≡◌, ℕ, suc, ◌+◌, cond, not, Bool, true, false, List, [], ◌∷◌, Some, Option, refl, sym, ap, ◌∙◌, add-one}
 use Rattle.std.specs.List.{position_from}
 use Rattle.std.specs.Option.{option_map}
-use Rattle.words.specs.declared.fault.Fault.{Fault}
 use Rattle.words.specs.declared.fault.Kind.TheVariants.{TooLarge}
 use Rattle.words.specs.declared.fault.Layer.TheVariants.{Pile}
 use Rattle.words.specs.Faults.{fault}

@@ -1,14 +1,14 @@
 -- One step of a scan for the first refusal. Assumes nothing.
-use Rattle.std.proofs.Common.{◌≡◌, ℕ, suc, ◌+◌, ◌<◌, ◌≤◌, cond, true, false, List, [], ◌∷◌, map, length, get_or, drop, Some, None, Option, refl, sym, ap, ◌∙◌, add-one, le-ltb, lt-ltb, leb}
+use Rattle.std.proofs.Common.{◌≡◌, ℕ, suc, ◌+◌, ◌<◌, ◌≤◌, cond, true, false, List, [], ◌∷◌, map, length, drop, Some, None, Option, refl, sym, ap, ◌∙◌, add-one, le-ltb, lt-ltb, leb}
 use mathlib.Core.Logic.{◌⊎◌, inl, inr}
 use Rattle.std.specs.List.{position_from}
 use Rattle.std.specs.Option.{option_map}
 use Rattle.std.proofs.lemmas.Bool.Decides.{leb_tells}
-use Rattle.std.proofs.lemmas.List.{at_drop_more, at_drop_all}
+use Rattle.std.proofs.lemmas.List.{at_drop_all}
 use Rattle.words.specs.declared.fault.Fault.{Fault}
 use Rattle.words.specs.declared.fault.Kind.TheVariants.{TooLarge}
 use Rattle.words.specs.declared.fault.Layer.{Layer}
-use Rattle.words.specs.Buffers.{Given, first_large, first_of, either}
+use Rattle.words.specs.Buffers.{Given, first_large, first_of}
 use Rattle.words.specs.Faults.{fault}
 
 -- the first value that is too large, by its position
@@ -27,17 +27,6 @@ large_at layer bound i (x ∷ xs) =
         ap (λ t. cond t (first_large layer bound (suc i) xs) (Some (fault TooLarge layer i))) (lt-ltb _ _ small.1)
         ∙ rest
         ∙ sym (ap (λ t. option_map (fault TooLarge layer) (cond t (Some i) (position_from (λ x. leb bound x) (i + 1) xs))) small.0)
-
-module _ {X : Type 0} (f : Given → Option Fault) (g : X → Given) (xs : List X) (i : ℕ) (d : X) where
-  step : i < length xs → (z : Option Fault) → f (g (get_or xs i d)) ≡ z → first_of f (map g (drop i xs)) ≡ either z (first_of f (map g (drop (i + 1) xs)))
-  step h z e =
-      at_drop_more (λ ys. first_of f (map g ys)) xs i d h ∙ ap (λ y. either y (first_of f (map g (drop (i + 1) xs)))) e
-
-  pub first_more : i < length xs → f (g (get_or xs i d)) ≡ None → first_of f (map g (drop i xs)) ≡ first_of f (map g (drop (i + 1) xs))
-  first_more h e = step h None e
-
-  pub first_found : i < length xs → (y : Fault) → f (g (get_or xs i d)) ≡ Some y → first_of f (map g (drop i xs)) ≡ Some y
-  first_found h y e = step h (Some y) e
 
 pub first_none : {X : Type 0} (f : Given → Option Fault) (g : X → Given) (xs : List X) (i : ℕ) → length xs ≤ i → first_of f (map g (drop i xs)) ≡ None
 first_none f g xs i h = at_drop_all (λ ys. first_of f (map g ys)) xs i h

@@ -1,8 +1,8 @@
-use Rattle.std.proofs.Common.{◌≡◌, ◌+◌, ◌-◌, ◌*◌, ◌≤◌, length, get_or, take, drop, ap, ◌∙◌, ap₂, arith, take_all}
+use Rattle.std.proofs.Common.{◌≡◌, ◌+◌, ◌-◌, ◌*◌, ◌≤◌, length, get_or, take, drop, ap, ◌∙◌, ap₂, arith}
 use borrow.Rule.Slice.PartMut.{put_mid}
 use Rattle.std.proofs.lemmas.List.{length-drop, length-take-le}
 use Rattle.words.specs.Bits.{bits_of}
-use Rattle.memory_laws.specs.Payload.{bits_of_byte, carrying}
+use Rattle.memory_laws.specs.Payload.{bits_of_byte}
 use Rattle.memory_laws.proofs.Spelling.{bits_byte, carrying_more}
 use Rattle.memories.proofs.bits.spread.Goals as goal
 
@@ -18,8 +18,3 @@ loop-i-preserved c =
     ap₂ (λ n ys. put_mid (8 * i) n c.loop-i.message ys) span bits
     ∙ ap (λ xs. put_mid (8 * i) 8 xs (bits_of_byte (get_or payload i 0))) c.loop-i.invariant
     ∙ carrying_more (length c.fill.new.self) payload i c.loop-i-test.true fits
-
-pub returns : goal.returns
-returns c =
-    c.loop-i.invariant
-    ∙ ap₂ carrying c.fill.ensures.len (take_all _ _ c.loop-i-test.false)

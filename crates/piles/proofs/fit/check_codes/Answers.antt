@@ -1,16 +1,7 @@
 use Rattle.std.proofs.Common.{sym, subst}
-use Rattle.std.specs.List.{AllByRecursion}
-use Rattle.std.proofs.ByRecursion.{All-more}
-use Rattle.std.proofs.lemmas.List.{take_all}
 use Rattle.words.proofs.Rises.{raised}
 use Rattle.piles.proofs.Unsound.{first_unsound}
 use Rattle.piles.proofs.fit.check_codes.Goals as goal
-
-pub loop-code-preserved : goal.loop-code-preserved
-loop-code-preserved g c =
-    let sound = g.A.Code.sound in
-    let a = c.code-item.result in
-    All-more sound c.args.codes.now c.loop-code.code-index a c.loop-code-test.true c.loop-code.invariant (subst sound c.code-item.is c.in_ok-check.ensures.sound)
 
 pub returns-in_err-check : goal.returns-in_err-check
 returns-in_err-check g c =
@@ -20,6 +11,3 @@ returns-in_err-check g c =
     let f = c.in_err-check.field-0.0 in
     let bad = c.in_err-check.ensures in
     rw (raised c.from_residual.result c.from_residual.ensures.1) (first_unsound sound refuses c.args.codes.now c.loop-code.code-index a f c.loop-code-test.true c.loop-code.invariant (λ s. bad.sound (subst sound (sym c.code-item.is) s)) (subst (λ x. refuses x f) c.code-item.is bad.refused))
-
-pub returns : goal.returns
-returns g c = subst (AllByRecursion g.A.Code.sound) (take_all _ _ c.loop-code-test.false) c.loop-code.invariant

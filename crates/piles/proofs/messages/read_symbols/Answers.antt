@@ -1,4 +1,4 @@
-use Rattle.std.proofs.Common.{◌≡◌, ℕ, ◌+◌, ◌-◌, ◌*◌, ◌<◌, ◌≤◌, List, length, get_or, take, drop, set, sym, ap, ◌∙◌, subst, mod-eq_of_lt, lt_of_lt_of_le, pow_mono, arith, rules}
+use Rattle.std.proofs.Common.{◌≡◌, ℕ, ◌+◌, ◌-◌, ◌*◌, ◌<◌, ◌≤◌, List, length, get_or, take, drop, set, sym, ap, ◌∙◌, subst, mod-eq_of_lt, lt_of_lt_of_le, pow_mono, arith}
 use Rattle.std.specs.List.{AllByRecursion}
 use Rattle.std.proofs.lemmas.List.Edits.{fill_by_more}
 use Rattle.std.proofs.ByRecursion.{All-take, All-drop}
@@ -6,14 +6,8 @@ use Rattle.std.proofs.lemmas.List.{length-take}
 use Rattle.words.specs.Bits.{spelled}
 use Rattle.words.proofs.Spelling.{spelled_small}
 use Rattle.pile_laws.specs.Build.{symbols}
-use Rattle.pile_laws.proofs.Messages.{symbols_read, symbol_room}
+use Rattle.pile_laws.proofs.Messages.{symbols_read}
 use Rattle.piles.proofs.messages.read_symbols.Goals as goal
-
-pub slice_bounds-spell-end : goal.slice_bounds-spell-end
-slice_bounds-spell-end c =
-    let room = symbol_room c.args.width (length c.args.symbols.now) c.loop-i.i c.loop-i-test.true in
-    let long = c.requires.1.0 in
-    search rules
 
 spelled_byte : (w i : ℕ) (bits : List ℕ) → w ≤ 8 → AllByRecursion (λ b. b < 2) bits → spelled (take (i * w + w - i * w) (drop (i * w) bits)) < 256
 spelled_byte w i bits narrow binary =

@@ -1,4 +1,4 @@
-use Rattle.std.proofs.Common.{◌*◌, ap₂, mul-le-mul, arith}
+use Rattle.std.proofs.Common.{mul-le-mul, arith}
 use Rattle.chains.specs.FromLaw.{within}
 use Rattle.pile_laws.proofs.Calls.{stage_number}
 use Rattle.stage_laws.proofs.Reach.{distance_within}
@@ -15,9 +15,3 @@ overflow_mul-result g c =
     let inner = stage_number (g.H.Chain.sound chain) h h.distance c.args.stage c.in_ok-inner.inner c.requires.0 c.requires.1.1 c.in_ok-inner.ensures in
     let small = mul-le-mul {n₁ = c.in_ok-inner.inner} {m₁ = c.distance-2.result} {n₂ = 16} {m₂ = 4096} (omega (arith, inner, within h law c.args.stage c.requires.1.1, law.few_cells)) (omega (arith, c.distance-2.ensures c.requires.1.0, distance_within m code-law, code-law.short)) in
     record { fits = omega (arith, small) }
-
-pub returns : goal.returns
-returns g c =
-    let chain = c.args.chain.now in
-    let h = g.H.Chain.model chain in
-    ap₂ ◌*◌ (stage_number (g.H.Chain.sound chain) h h.distance c.args.stage c.in_ok-inner.inner c.requires.0 c.requires.1.1 c.in_ok-inner.ensures) (c.distance-2.ensures c.requires.1.0)

@@ -1,10 +1,9 @@
-use Rattle.std.proofs.Common.{◌≡◌, ℕ, ◌*◌, ◌<◌, length, take, replicate, sym, ap, ◌∙◌, ap₂, arith}
+use Rattle.std.proofs.Common.{◌≡◌, ℕ, ◌<◌, length, take, replicate, ◌∙◌, arith}
 use Rattle.std.specs.List.{AllByRecursion}
 use Rattle.std.proofs.ByRecursion.{All-take}
 use Rattle.std.proofs.lemmas.List.{length-take-le}
 use Rattle.codes.specs.Model.{CodeModel, Lawful}
 use Rattle.codes.specs.Repeats.{all_replicate}
-use Rattle.pile_laws.specs.Build.{spelled_out}
 use Rattle.pile_laws.proofs.Recovery.{codeword_answer}
 use Rattle.piles.proofs.recovery.recover_stage.Goals as goal
 
@@ -13,14 +12,6 @@ room_long m law k is = length-take-le k (replicate {A = ℕ} 4096 0) (omega (ari
 
 room_bytes : (k : ℕ) → AllByRecursion (λ x. x < 256) (take k (replicate 4096 0))
 room_bytes k = All-take (λ x. x < 256) k (replicate 4096 0) (all_replicate (λ x. x < 256) 4096 0 (omega arith))
-
-pub spell_out-requires : goal.spell_out-requires
-spell_out-requires g c =
-    let code = c.args.code.now in
-    let law = g.met.A.Code.lawful code c.requires.0 in
-    let width = c.width.ensures c.requires.0 in
-    let long = room_long (g.A.Code.model code) law c.message_len.result (c.message_len.ensures c.requires.0) in
-    (omega (arith, width, law.narrow), c.requires.1.1 ∙ ap₂ ◌*◌ (sym (c.message_of.auto.message ∙ long)) (sym width))
 
 pub returns-in_err-message_of : goal.returns-in_err-message_of
 returns-in_err-message_of g c =
@@ -33,13 +24,3 @@ returns-in_err-message_of g c =
     let was = c.in_err-message_of.was in
     let z : ◌≡◌ {A = ℕ} 0 1 = cc (fine, was) in
     absurd (omega (arith, z))
-
-pub returns : goal.returns
-returns g c =
-    let code = c.args.code.now in
-    let s = c.requires.0 in
-    let law = g.met.A.Code.lawful code s in
-    let k = c.message_len.result in
-    let read = c.message_of.new.message in
-    let answer = codeword_answer (g.A.Code.model code) c.args.word.now (take k (replicate 4096 0)) read c.message_of.result law c.requires.1.0 (room_long (g.A.Code.model code) law k (c.message_len.ensures s)) (room_bytes k) (c.message_of.ensures.sound s) in
-    (read, answer.1, answer.2, c.spell_out.ensures ∙ ap (λ (w : ℕ). spelled_out w read) (c.width.ensures s))

@@ -1,22 +1,10 @@
-use Rattle.std.proofs.Common.{◌≡◌, ℕ, ◌+◌, ◌-◌, ◌*◌, length, get_or, take, drop, sym, ap, ◌∙◌, ap₂, arith, rules}
+use Rattle.std.proofs.Common.{◌≡◌, ℕ, ◌+◌, ◌-◌, ◌*◌, length, get_or, take, drop, ap, ◌∙◌, ap₂, arith}
 use borrow.Rule.Slice.PartMut.{put_mid}
-use Rattle.std.proofs.lemmas.List.{length-drop, length-take-le, take_all}
+use Rattle.std.proofs.lemmas.List.{length-drop, length-take-le}
 use Rattle.words.specs.Bits.{bits_of}
-use Rattle.pile_laws.specs.Build.{spelled_out}
 use Rattle.pile_laws.proofs.Messages.{symbol_room}
 use Rattle.pile_laws.proofs.Recovery.{spelled_more}
 use Rattle.piles.proofs.recovery.spell_out.Goals as goal
-
-pub slice_bounds-write_bits-end : goal.slice_bounds-write_bits-end
-slice_bounds-write_bits-end c =
-    let room = symbol_room c.args.width (length c.args.symbols.now) c.loop-i.i c.loop-i-test.true in
-    let long = c.requires.1 in
-    search rules
-
-pub loop-i-init : goal.loop-i-init
-loop-i-init c =
-    let none : 0 * c.args.width ≡ 0 = omega arith in
-    ap (λ (n : ℕ). take n c.args.bits.now) none
 
 pub loop-i-preserved : goal.loop-i-preserved
 loop-i-preserved c =
@@ -31,13 +19,3 @@ loop-i-preserved c =
     let written : ys ≡ bits_of w (get_or symbols i 0) = c.write_bits.ensures ∙ ap₂ bits_of part c.from.ensures in
     ap (λ (n : ℕ). take ((i + 1) * w) (put_mid (i * w) n bits ys)) span
     ∙ spelled_more w i symbols bits ys c.loop-i-test.true (omega (arith, room, c.requires.1, c.loop-i.auto.bits)) (c.write_bits.auto.bits ∙ part) written c.loop-i.invariant
-
-pub returns : goal.returns
-returns c =
-    let w = c.args.width in
-    let symbols = c.args.symbols.now in
-    let all : c.loop-i.i ≡ length symbols = omega arith in
-    let whole : length c.loop-i.bits ≡ c.loop-i.i * w = c.loop-i.auto.bits ∙ c.requires.1 ∙ ap (λ (n : ℕ). n * w) (sym all) in
-    sym (take_all (c.loop-i.i * w) c.loop-i.bits (omega (arith, whole)))
-    ∙ c.loop-i.invariant
-    ∙ ap (spelled_out w) (take_all c.loop-i.i symbols (omega arith))

@@ -17,11 +17,6 @@ make_codes-requires c =
     let h = c.args.recipe.now.lawful in
     subst (λ (ss : List Stage). AllByRecursion Makeable ss × ((0 < length ss) × (length ss ≤ 5))) (sym c.stages-stages.ensures) (all_makeable t h, (some_used t h, few_used t h))
 
-pub new-requires : goal.new-requires
-new-requires c =
-    let t = c.args.recipe.now.table in
-    subst (λ (ss : List Stage). length ss ≤ 5) (sym c.stages-stages.ensures) (few_used t c.args.recipe.now.lawful)
-
 pub returns : goal.returns
 returns c =
     let t = c.args.recipe.now.table in

@@ -1,4 +1,4 @@
-use Rattle.std.proofs.Common.{◌≡◌, ℕ, ◌+◌, ◌*◌, ◌<◌, true, length, get_or, set, Some, None, sym, refl, ap, ◌∙◌, subst, ap₂, subst₂, arith}
+use Rattle.std.proofs.Common.{◌≡◌, ℕ, ◌+◌, ◌*◌, ◌<◌, true, get_or, set, None, sym, refl, ap, ◌∙◌, subst, ap₂, subst₂, arith}
 use Rattle.words.proofs.Rises.{raised}
 use Rattle.recipes.specs.declared.kinds.ChainKind.{ChainKind}
 use Rattle.recipes.specs.Chains.{Known, stages_of, width_at}
@@ -6,8 +6,8 @@ use Rattle.recipes.specs.Codes.{fits_kind}
 use Rattle.recipes.specs.Meaning.{two_bytes}
 use Rattle.recipes.specs.Stages.{stage_of}
 use Rattle.recipes.specs.Rules.{first_broken, rules_from}
-use Rattle.recipes.proofs.Breaking.{rules_more, stage_passes, end_broken}
-use Rattle.recipes.proofs.Filling.{Filled, few_stages, few_columns, message_within, filled_more, described}
+use Rattle.recipes.proofs.Breaking.{rules_more, stage_passes}
+use Rattle.recipes.proofs.Filling.{few_stages, few_columns, message_within, filled_more}
 use Rattle.recipes.proofs.Naming.{chain_of_byte, code_of_byte}
 use Rattle.recipes.proofs.recipe.read_table.Goals as goal
 
@@ -53,20 +53,3 @@ loop-i-preserved c =
       omega (arith, fields.0),
       sym step ∙ c.loop-i.invariant.2,
     )
-
-pub returns-in_err-check_end : goal.returns-in_err-check_end
-returns-in_err-check_end c =
-    let b = c.args.bytes.now in
-    let chain = c.args.chain in
-    let s = c.stages-stages.result in
-    let over = c.in_err-check_end.ensures in
-    rw (raised _ c.from_residual-in_err-check_end.ensures.1)
-    (ap (λ n. first_broken (rules_from b chain n 0)) (sym c.stages-stages.ensures) ∙ sym c.loop-i.invariant.2
-    ∙ end_broken b chain s c.loop-i.i (omega arith) over.0 ∙ ap Some (sym over.1))
-
-pub returns : goal.returns
-returns c =
-    let b = c.args.bytes.now in
-    let all : c.loop-i.i ≡ stages_of c.args.chain = omega (arith, c.stages-stages.ensures) in
-    let whole : length b ≡ 3 + 3 * stages_of c.args.chain = omega (arith, c.in_ok-check_end.ensures, c.stages-stages.ensures) in
-    described b c.args.chain c.args.columns c.loop-i.table c.requires (subst (λ (n : ℕ). Filled b c.args.chain c.args.columns n c.loop-i.table) all c.loop-i.invariant.0) whole

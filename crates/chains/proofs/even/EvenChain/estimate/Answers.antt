@@ -1,12 +1,10 @@
-use Rattle.std.proofs.Common.{◌≡◌, ℕ, ◌<◌, List, [], ◌∷◌, length, get_or, Ok, sym, refl, ◌∙◌, subst₂, arith}
-use Rattle.std.proofs.lemmas.List.{nil_from_length}
+use Rattle.std.proofs.Common.{◌≡◌, ℕ, ◌<◌, List, [], ◌∷◌, length, get_or, Ok, sym, refl, subst₂, arith}
 use Rattle.words.specs.Buffers.{checked}
-use Rattle.words.proofs.Rises.{raised, checked_err}
 use Rattle.chains.specs.Even.{even_widths, even_chain}
 use Rattle.chains.specs.Model.{at_stage, LabelsFrom}
 use Rattle.chains.specs.Promises.{Estimates}
 use Rattle.chains.specs.Refusals.{estimate_refusal, ReadingFits}
-use Rattle.chains.proofs.Due.{same_reading, reading_passed, answers, refuses}
+use Rattle.chains.proofs.Due.{reading_passed, answers}
 use Rattle.chains.proofs.Readings.{binary_rows}
 use Rattle.chains.specs.Fits.{reading_fits}
 use Rattle.chains.proofs.even.EvenChain.estimate.Goals as goal
@@ -20,14 +18,6 @@ one_label n (x ∷ y ∷ labels) l a = absurd (omega arith)
 reading : (n i : ℕ) (labels cells marks : List ℕ) {m : ℕ} {ws : List ℕ} {u : Unit {0}} → m ≡ n → ws ≡ even_widths n → Ok u ≡ checked (estimate_refusal m (length ws) (at_stage ws) i labels cells marks) → ReadingFits n 2 (at_stage (even_widths n)) i labels cells marks
 reading n i labels cells marks em ew e = reading_fits n 2 (at_stage (even_widths n)) i labels cells marks (reading_passed i labels cells marks em ew refl e)
 
-pub returns-in_err-check_reading : goal.returns-in_err-check_reading
-returns-in_err-check_reading c =
-    let labels = c.args.labels.now in
-    let cells = c.args.cells.now in
-    let marks = c.args.marks.now in
-    let due = sym (same_reading c.args.stage labels cells marks c.from.ensures c.widths.ensures refl) ∙ checked_err _ c.in_err-check_reading.ensures in
-    (λ _. refuses _ (Estimates (even_chain c.args.self.now.n) c.args.stage labels cells marks) c.from_residual.result due (raised _ c.from_residual.ensures.1), λ no. absurd (no tt))
-
 pub invariant_of-reading : goal.invariant_of-reading
 invariant_of-reading c =
     let fits = reading c.args.self.now.n c.args.stage c.args.labels.now c.args.cells.now c.args.marks.now c.from.ensures c.widths.ensures c.in_ok-check_reading.ensures in
@@ -39,27 +29,6 @@ invariant_of-reading-else-stage-eq1 c =
     let fits = reading c.args.self.now.n c.args.stage c.args.labels.now c.args.cells.now c.args.marks.now c.from.ensures c.widths.ensures c.in_ok-check_reading.ensures in
     let rows = binary_rows _ _ _ fits.cells_fit fits.marks_fit in
     record { paired = rows.0; cells_small = rows.1; marks_small = rows.2 }
-
-pub estimate_first-requires : goal.estimate_first-requires
-estimate_first-requires c =
-    (reading c.args.self.now.n c.args.stage c.args.labels.now c.args.cells.now c.args.marks.now c.from.ensures c.widths.ensures c.in_ok-check_reading.ensures).cells_fit.0
-
-pub estimate_second-requires : goal.estimate_second-requires
-estimate_second-requires c =
-    let fits = reading c.args.self.now.n c.args.stage c.args.labels.now c.args.cells.now c.args.marks.now c.from.ensures c.widths.ensures c.in_ok-check_reading.ensures in
-    let one = one_label c.args.self.now.n c.args.labels.now (omega (arith, fits.many, fits.low, fits.high)) fits.each in
-    (fits.cells_fit.0, one.0)
-
-pub returns-then-stage-eq1 : goal.returns-then-stage-eq1
-returns-then-stage-eq1 c =
-    let n = c.args.self.now.n in
-    let cells = c.args.cells.now in
-    let marks = c.args.marks.now in
-    let none = reading_passed c.args.stage c.args.labels.now cells marks c.from.ensures c.widths.ensures refl c.in_ok-check_reading.ensures in
-    let fits = reading n c.args.stage c.args.labels.now cells marks c.from.ensures c.widths.ensures c.in_ok-check_reading.ensures in
-    let empty = nil_from_length c.args.labels.now (omega (arith, fits.many)) in
-    let near = subst₂ (λ (i : ℕ) (labels : List ℕ). Estimates (even_chain n) i labels cells marks c.estimate_first.result) (sym c.if-stage-eq1.true) (sym empty) c.estimate_first.ensures in
-    (λ _. answers _ (Estimates (even_chain n) c.args.stage c.args.labels.now cells marks) _ none near, λ no. absurd (no tt))
 
 pub returns-else-stage-eq1 : goal.returns-else-stage-eq1
 returns-else-stage-eq1 c =

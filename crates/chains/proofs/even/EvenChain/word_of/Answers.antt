@@ -1,8 +1,6 @@
-use Rattle.std.proofs.Common.{sym, refl, ap, ◌∙◌}
-use Rattle.words.specs.Buffers.{checked}
-use Rattle.chains.specs.Even.{even_word, even_widths}
+use Rattle.std.proofs.Common.{refl}
+use Rattle.chains.specs.Even.{even_widths}
 use Rattle.chains.specs.Model.{at_stage}
-use Rattle.chains.specs.Promises.{kept_or}
 use Rattle.chains.proofs.Due.{row_passed}
 use Rattle.chains.specs.Fits.{row_fits}
 use Rattle.chains.proofs.even.EvenChain.word_of.Goals as goal
@@ -13,10 +11,3 @@ lay-requires c =
     let cells = c.args.cells.now in
     let due = row_passed labels cells c.from.ensures c.widths.ensures refl c.in_ok-check_row.ensures in
     row_fits c.args.self.now.n 2 (at_stage (even_widths c.args.self.now.n)) labels cells due
-
-pub returns : goal.returns
-returns c =
-    let labels = c.args.labels.now in
-    let cells = c.args.cells.now in
-    let due = row_passed labels cells c.from.ensures c.widths.ensures refl c.in_ok-check_row.ensures in
-    (λ _. (ap checked (sym due), c.lay.ensures ∙ ap (λ z. kept_or z cells (even_word c.args.self.now.n labels)) (sym due)), λ no. absurd (no tt))

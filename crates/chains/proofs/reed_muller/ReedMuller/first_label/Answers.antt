@@ -1,4 +1,4 @@
-use Rattle.std.proofs.Common.{◌≡◌, ℕ, ◌+◌, ◌-◌, ◌/◌, ◌^◌, ◌<◌, ◌≤◌, length, get_or, ap, ◌∙◌, subst, ap₂, lt_of_lt_of_le, arith, pow_mono}
+use Rattle.std.proofs.Common.{◌≡◌, ℕ, ◌+◌, ◌-◌, ◌/◌, ◌^◌, ◌<◌, ◌≤◌, length, get_or, ap, ◌∙◌, subst, lt_of_lt_of_le, arith, pow_mono}
 use Rattle.std.proofs.lemmas.Nat.{shr_below}
 use Rattle.std.proofs.ByRecursion.{All-get_or}
 use Rattle.chains.specs.Model.{at_stage}
@@ -33,6 +33,3 @@ overflow_cast-result-2 c =
     let sum : 2 ^ r - c.args.count ≡ w + k = omega (arith, width c, c.cells.ensures, c.requires.1.1.0) in
     let below : c.args.bits / 2 ^ k < 2 ^ w = shr_below c.args.bits w k (subst (λ (j : ℕ). c.args.bits < 2 ^ j) sum c.requires.1.1.1) in
     record { fits = lt_of_lt_of_le below (pow_mono {i = w} {j = 8} wide.1) }
-
-pub returns : goal.returns
-returns c = ap₂ (λ n w. c.args.bits / 2 ^ (n - c.args.count - w)) c.cells.ensures (width c)

@@ -1,17 +1,12 @@
-use Rattle.std.proofs.Common.{◌≡◌, ◌+◌, length, take, sym, ap, ◌∙◌, ap₂, arith}
+use Rattle.std.proofs.Common.{◌≡◌, ◌+◌, length, take, ap, ◌∙◌, ap₂, arith}
 use Rattle.std.proofs.lemmas.List.{take_all}
 use Rattle.chains.specs.Bits.{bits_of, spelled}
 use Rattle.chains.specs.ReedMuller.{muller_widths, row_bits}
 use Rattle.chains.specs.MullerColumns.{muller_sizes}
 use Rattle.chains.proofs.MullerSteps.{stage_there, width_small, join_bits, join_count}
-use Rattle.chains.specs.RowBits.{row_bits_none, row_bits_small, length_row_most}
+use Rattle.chains.specs.RowBits.{row_bits_small, length_row_most}
 use Rattle.chains.specs.Spelling.{bits_spelled}
 use Rattle.chains.proofs.reed_muller.ReedMuller.join.Goals as goal
-
-pub loop-i-init : goal.loop-i-init
-loop-i-init c =
-    let none = row_bits_none (muller_widths c.args.self.now.r) in
-    (ap spelled (sym none), ap length (sym none))
 
 pub bounds-widths-i : goal.bounds-widths-i
 bounds-widths-i c = stage_there c.args.self.now.r c.args.self.now.range c.args.labels.now c.widths-widths.result.now c.loop-i.i c.widths-widths.ensures c.requires.0 c.requires.1 c.loop-i-test.true

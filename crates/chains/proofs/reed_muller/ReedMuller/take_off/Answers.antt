@@ -2,13 +2,9 @@ use Rattle.std.proofs.Common.{◌+◌, ◌^◌, ◌∷◌, drop, sym, ap, ◌∙
 use Rattle.std.proofs.lemmas.List.{drop_more, drop_all}
 use Rattle.chains.specs.Bits.{bits_of}
 use Rattle.chains.specs.Votes.{columns, laid}
-use Rattle.chains.specs.MullerColumns.{muller_sizes}
 use Rattle.chains.proofs.MullerSteps.{columns_more, laid_none}
 use Rattle.chains.specs.Spelling.{length_bits, get_or_bits}
 use Rattle.chains.proofs.reed_muller.ReedMuller.take_off.Goals as goal
-
-pub turn-rest-requires : goal.turn-rest-requires
-turn-rest-requires c = (omega arith, c.loop-t.invariant.0)
 
 pub loop-t-preserved : goal.loop-t-preserved
 loop-t-preserved c =

@@ -1,4 +1,4 @@
-use Rattle.std.proofs.Common.{◌≡◌, ℕ, ◌^◌, ◌<◌, List, [], ◌∷◌, length, get_or, replicate, sym, refl, ap, ◌∙◌, subst, arith, pow_mono}
+use Rattle.std.proofs.Common.{◌≡◌, ℕ, ◌^◌, ◌<◌, List, length, get_or, replicate, sym, refl, ap, ◌∙◌, subst, arith, pow_mono}
 use Rattle.std.proofs.ByRecursion.{All-weaker}
 use Rattle.std.proofs.lemmas.List.Elements.{All-from_recursion}
 use Rattle.words.specs.Harm.{harm}
@@ -6,7 +6,7 @@ use Rattle.words.proofs.Rises.{raised}
 use Rattle.codes.specs.declared.checks.Parameters.{Parameters}
 use Rattle.codes.specs.Kinds.{repetition_code}
 use Rattle.codes.specs.Repeats.{more_is_nearer, first_symbol}
-use Rattle.codes.proofs.Working.{correct_passes, damage_fits, corrected, uncorrected}
+use Rattle.codes.proofs.Working.{correct_passes, damage_fits, uncorrected}
 use Rattle.codes.proofs.repetition.RepetitionCode.correct.Goals as goal
 
 pub invariant_of-damaged : goal.invariant_of-damaged
@@ -43,21 +43,3 @@ returns-in_err-check_near-clause-sound c =
     let nearer = more_is_nearer p s word marks (fit.1.0 ∙ sym fit.0.0) fewer in
     omega (arith, nearer, found, ap (λ k. harm word marks (replicate k s)) fit.0.0, near, c.in_err-check_near.ensures.0) in
     λ _. rw (raised _ c.from_residual-in_err-check_near.ensures.1, c.in_err-check_near.ensures.1) (uncorrected model word marks 0 none refl (λ u near. far u near.0.0 (first_symbol m u near.0.0 near.0.1) near.1))
-
-pub returns-clause-sound : goal.returns-clause-sound
-returns-clause-sound c =
-    let size = c.args.self.now.size in
-    let m = size.width in
-    let n = size.len in
-    let model = repetition_code m n in
-    let word = c.args.word.now in
-    let marks = c.args.marks.now in
-    let none = correct_passes model c.parameters-parameters.ensures word marks c.in_ok-check_correct.ensures in
-    let fit = damage_fits model word marks none in
-    let p = c.majority-symbol.result in
-    let f = c.in_ok-found.ensures in
-    let found : c.in_ok-found.found ≡ harm word marks (replicate (length word) p) = cc in
-    let is : c.in_ok-found.found ≡ harm word marks (replicate n p) = found ∙ ap (λ k. harm word marks (replicate k p)) fit.0.0 in
-    let small : p < 2 ^ m = subst (λ (k : ℕ). p < k) (ap (λ (p : Parameters). p.symbols) c.parameters-parameters.ensures) c.majority-symbol.ensures.0 in
-    let filled : c.fill.new.self ≡ replicate n p = c.fill.ensures.after (λ y e. e) ∙ ap (λ k. replicate k p) fit.0.0 in
-    λ _. corrected model word marks c.fill.new.self c.in_ok-found.found none (p ∷ []) ((refl, (small, tt)), omega (arith, is, c.in_ok-check_near.ensures)) filled is

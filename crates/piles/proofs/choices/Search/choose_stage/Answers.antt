@@ -1,4 +1,4 @@
-use Rattle.std.proofs.Common.{◌≡◌, ℕ, suc, ◌+◌, ◌-◌, ◌*◌, ◌<◌, ◌≤◌, List, map, MatchResult, Result, length, get_or, take, drop, replicate, Option, None, Ok, Err, sym, ap, ◌∙◌, subst, add-one, arith, rules}
+use Rattle.std.proofs.Common.{◌≡◌, ℕ, suc, ◌+◌, ◌-◌, ◌*◌, ◌<◌, ◌≤◌, List, map, MatchResult, Result, length, get_or, take, drop, replicate, Option, None, Ok, Err, sym, ap, ◌∙◌, subst, add-one, arith}
 use Rattle.std.proofs.ByRecursion.{All-get_or}
 use Rattle.std.proofs.lemmas.List.{length-drop, length-take-le}
 use Rattle.words.specs.declared.fault.Fault.{Fault}
@@ -47,12 +47,6 @@ returns-in_err-inner g c =
     let h = g.H.Chain.model c.args.self.now.chain.now in
     let many = codes_many g.A.Code.model c.args.self.now.codes.now h c.requires.search.parts.2 in
     absurd (stage_never (g.H.Chain.sound c.args.self.now.chain.now) h h.distance (c.args.chosen + 1) c.in_err-inner.field-0.0 c.requires.search.parts.0 (omega arith, omega (arith, many, c.requires.stage.0)) c.in_err-inner.ensures)
-
-pub slice_bounds-part-end : goal.slice_bounds-part-end
-slice_bounds-part-end g c =
-    let room = part_in c.args.self.now.columns (length c.args.self.now.codes.now) c.args.chosen c.requires.stage.0 in
-    let here : c.args.self.now.columns * c.args.chosen + c.args.self.now.columns ≤ length c.args.words.now = omega (arith, room, c.requires.stage.1.0) in
-    search rules
 
 pub overflow_cast-inner : goal.overflow_cast-inner
 overflow_cast-inner g c =

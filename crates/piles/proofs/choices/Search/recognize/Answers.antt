@@ -1,15 +1,12 @@
-use Rattle.std.proofs.Common.{◌≡◌, ℕ, ◌*◌, ◌<◌, ◌≤◌, List, map, length, Ok, Err, Result, sym, ap, ◌∙◌, subst, arith, MatchResult}
-use Rattle.std.proofs.lemmas.List.{length-replicate}
+use Rattle.std.proofs.Common.{◌≡◌, ℕ, ◌*◌, ◌<◌, ◌≤◌, List, map, length, Ok, Err, Result, sym, ap, ◌∙◌, arith, MatchResult}
 use Rattle.words.specs.declared.fault.Fault.{Fault}
 use Rattle.words.specs.declared.fault.Kind.TheVariants.{NoCodeword}
 use Rattle.words.specs.declared.fault.Layer.TheVariants.{Code}
 use Rattle.words.specs.Faults.{fault}
-use Rattle.codes.specs.Repeats.{all_replicate}
-use Rattle.chains.specs.Model.{Cells}
 use Rattle.codes.specs.Model.{CodeModel}
 use Rattle.pile_laws.specs.Build.{columns}
 use Rattle.pile_laws.proofs.Exact.{exact_parts, exact_word, inexact_word, no_codeword}
-use Rattle.pile_laws.proofs.Scans.{each_lawful, length_models, room_for}
+use Rattle.pile_laws.proofs.Scans.{each_lawful, length_models}
 use Rattle.piles.specs.Decoding.{Recognizes}
 use Rattle.piles.proofs.choices.Search.recognize.Goals as goal
 

@@ -5,11 +5,6 @@ use Rattle.pile_laws.specs.Pile.{pile}
 use Rattle.piles.specs.Sound.{SoundPile}
 use Rattle.piles.proofs.pile.PileCode.encode.Goals as goal
 
-pub parameters-requires : goal.parameters-requires
-parameters-requires g c =
-    let self = c.args.self.now in
-    subst (SoundPile (g.H.Chain.sound self.chain) (g.H.Chain.model self.chain) g.A.Code.model g.A.Code.sound) (sym c.codes-codes.ensures) c.in_ok-check.ensures.sound
-
 pub write_codeword-requires : goal.write_codeword-requires
 write_codeword-requires g c =
     let self = c.args.self.now in

@@ -3,9 +3,6 @@ use Rattle.recipes.proofs.Uniqueness.{single_meaning}
 use Rattle.recipes.proofs.recipe.Recipe.read.Goals as goal
 
 -- what the bytes describe is lawful
-pub invariant_of-result : goal.invariant_of-result
-invariant_of-result c = record { lawful = ∣ c.in_ok-table.ensures.lawful ∣₁ }
-
 pub returns-in_err-chain : goal.returns-in_err-chain
 returns-in_err-chain c = record { reads = search rules; single = single_meaning c.args.bytes.now }
 
