@@ -1,13 +1,14 @@
 -- Which parts make a sound pile, and which refusal other parts give. Assumes nothing.
-use Rattle.std.specs.Prelude.{◌≡◌, ℕ, ◌⊎◌, List, [], ◌∷◌, map, Some, Result, MatchResult}
+use Rattle.std.specs.Prelude.{◌≡◌, ℕ, ◌≤◌, ◌⊎◌, List, [], ◌∷◌, map, Some, Result, MatchResult, ◌≢◌}
 use Rattle.std.specs.List.{AllByRecursion}
 use Rattle.words.specs.declared.fault.Fault.{Fault}
 use Rattle.words.specs.declared.fault.Kind.TheVariants.{UnfitStages}
 use Rattle.words.specs.declared.fault.Layer.TheVariants.{Pile}
+use Rattle.words.specs.Distance.{differences}
 use Rattle.words.specs.Faults.{fault}
 use Rattle.chains.specs.Model.{ChainModel}
 use Rattle.chains.specs.Refusals.{outside}
-use Rattle.codes.specs.Model.{CodeModel}
+use Rattle.codes.specs.Model.{CodeModel, Message}
 use Rattle.pile_laws.specs.Fit.{Fits, unfit}
 
 module _ {A : Type 0} (sound : A → Type 0) (refuses : A → Fault → Type 0) where
@@ -34,3 +35,8 @@ module _ (SoundChain : Type 0) (h : ChainModel) {A : Type 0} (model : A → Code
       ((SoundChain → ⊥) × (f ≡ outside))
       ⊎ (SoundChain × FirstUnsound sound refuses codes f)
       ⊎ (SoundChain × AllByRecursion sound codes × RefusesFit h (map model codes) f)
+
+-- the codewords of different messages differ in at least as many cells as the reach
+abbrev pub LieApart : CodeModel → Type 0
+LieApart c =
+    (u v : List ℕ) → Message c u → Message c v → (u ≢ v) → c.distance ≤ differences (c.codeword u) (c.codeword v)

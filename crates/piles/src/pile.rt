@@ -9,7 +9,7 @@ ghost use Rattle.codes.specs.Promises.{Corrected, Recovered, Refused};
 ghost use Rattle.codes.proofs.Working.{correct_buffers, message_of_buffers};
 ghost use Rattle.pile_laws.specs.Build.{columns as columns_of, reach as reach_of};
 ghost use Rattle.pile_laws.specs.Pile.{pile};
-ghost use Rattle.piles.specs.Sound.{SoundPile, RefusesPile};
+ghost use Rattle.piles.specs.Sound.{LieApart, SoundPile, RefusesPile};
 ghost use Rattle.pile_laws.proofs.Law.{pile_lawful};
 ghost use Rattle.pile_laws.proofs.Scans.{each_lawful};
 
@@ -186,7 +186,8 @@ impl<H: Chain, A: Code> Code for Pile<H, A> {
 
     /// Refuses parts that are not sound or do not fit each other. A pile that passes is a lawful code: the codewords of different messages
     /// differ in at least as many cells as the reach, and a message is no longer than its codeword.
-    // The trait's own clauses stand here again for the sake of `lawful`, and at `correct` for the sake of `only`.
+    // The trait's own clauses stand here again for the sake of `lawful`, and at `correct` for the sake of `only` and
+    // `apart`, so that all that holds of a pile stands on one call.
     fn check(&self) -> Result<(), Fault>
         ensures sound { MatchResult result (λ _. SoundPile (H.Chain.sound self.now.chain) (H.Chain.model self.now.chain) A.Code.model A.Code.sound (take self.now.used self.now.stages)) (λ _. SoundPile (H.Chain.sound self.now.chain) (H.Chain.model self.now.chain) A.Code.model A.Code.sound (take self.now.used self.now.stages) → ⊥) }
         ensures refused { IfErr result (RefusesPile (H.Chain.sound self.now.chain) (H.Chain.model self.now.chain) A.Code.model A.Code.sound A.Code.refuses (take self.now.used self.now.stages)) }
@@ -240,11 +241,13 @@ impl<H: Chain, A: Code> Code for Pile<H, A> {
     }
 
     /// Puts the codeword at harm below the reach in place of a word and answers that harm. Refuses with 12 where there is none: at the first
-    /// stage without a choice, or at 0 where all stages choose but the word that they make is too far.
+    /// stage without a choice, or at 0 where all stages choose but the word that they make is too far. There is at most one codeword so
+    /// near, since the codewords of different messages differ in at least as many cells as the reach.
     fn correct(&self, word: &mut [u8], marks: &[u8]) -> Result<usize, Fault>
         ensures sound { SoundPile (H.Chain.sound self.now.chain) (H.Chain.model self.now.chain) A.Code.model A.Code.sound (take self.now.used self.now.stages) → Corrected (pile (H.Chain.model self.now.chain) (map A.Code.model (take self.now.used self.now.stages))) word.old marks.now word.new result }
         ensures unsound { (SoundPile (H.Chain.sound self.now.chain) (H.Chain.model self.now.chain) A.Code.model A.Code.sound (take self.now.used self.now.stages) → ⊥) → (is_err result ≡ true) × (word.new ≡ word.old) }
         ensures refused { (SoundPile (H.Chain.sound self.now.chain) (H.Chain.model self.now.chain) A.Code.model A.Code.sound (take self.now.used self.now.stages) → ⊥) → Refused (RefusesPile (H.Chain.sound self.now.chain) (H.Chain.model self.now.chain) A.Code.model A.Code.sound A.Code.refuses (take self.now.used self.now.stages)) result }
+        ensures apart { SoundPile (H.Chain.sound self.now.chain) (H.Chain.model self.now.chain) A.Code.model A.Code.sound (take self.now.used self.now.stages) → LieApart (pile (H.Chain.model self.now.chain) (map A.Code.model (take self.now.used self.now.stages))) }
         ensures only { SoundPile (H.Chain.sound self.now.chain) (H.Chain.model self.now.chain) A.Code.model A.Code.sound (take self.now.used self.now.stages) → OnlyOneNear (pile (H.Chain.model self.now.chain) (map A.Code.model (take self.now.used self.now.stages))) word.old marks.now }
     {
         self.check()?;

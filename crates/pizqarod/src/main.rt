@@ -1,17 +1,29 @@
-// The program: what a recipe is, and which of many recipes serves best.
+// The program: what a recipe is, which of many recipes serves best, and what becomes of a single word.
 #![tactic(auto)]
 
+mod cells;
 mod describe;
+mod failure;
 mod hex;
+mod single;
 mod survey;
+mod watch;
 
+use crate::failure::Failure;
+use crate::single::{damage, decode, encode};
 use anyhow::anyhow;
 use std::alloc::Global;
 use std::env;
 
 const USAGE: &str =
     "pizqarod describe HEX..   what each recipe is: a line a stage and the totals, or why it is refused
-pizqarod survey           a table of the recipes on standard input, one to a line, by reach and then bytes";
+pizqarod survey           a table of the recipes on standard input, one to a line, by reach and then bytes
+pizqarod encode HEX BITS  the codeword of a message, its columns one behind the other
+pizqarod damage HEX WORD CHANGE..
+                          the word with cells changed: 17 turns cell 17 over, 17? makes it blank
+pizqarod decode HEX WORD  what each stage makes of the word, and the answer or the refusal
+
+HEX is a recipe as hexadecimal text. BITS is a row of 0 and 1, WORD one of 0, 1 and ? for a blank cell; spaces do not count.";
 
 fn describe_all(rt: &HostRuntime, recipes: &[String]) -> anyhow::Result<()> {
     for text in recipes {
@@ -30,15 +42,28 @@ fn survey_input(rt: &HostRuntime) -> anyhow::Result<()> {
     Ok(())
 }
 
+fn tell(rt: &HostRuntime, told: Result<String, Failure>) -> anyhow::Result<()> {
+    rt.print(told?.as_str())?;
+    Ok(())
+}
+
 fn run(rt: &HostRuntime, heap: Global) -> anyhow::Result<()> {
     let words: Vec<String> = env::args(rt)?.skip(1).collect(heap)?;
     let Some(command) = words.first() else {
         rt.println(USAGE)?;
         return Ok(());
     };
-    match command.as_str() {
-        "describe" => describe_all(rt, &words[1..]),
-        "survey" => survey_input(rt),
+    let rest = &words[1..];
+    match (command.as_str(), rest) {
+        ("describe", recipes) => describe_all(rt, recipes),
+        ("survey", []) => survey_input(rt),
+        ("encode", [recipe, message]) => {
+            tell(rt, encode(heap, recipe.as_str(), message.as_str()))
+        }
+        ("damage", [recipe, word, changes @ ..]) => {
+            tell(rt, damage(heap, recipe.as_str(), word.as_str(), changes))
+        }
+        ("decode", [recipe, word]) => tell(rt, decode(heap, recipe.as_str(), word.as_str())),
         _ => {
             rt.println(USAGE)?;
             Err(anyhow!("no such command"))

@@ -11,6 +11,7 @@ returns-in_err-check_correct g c =
       sound = search rules;
       unsound = search rules;
       refused = search rules;
+      apart = λ _. c.in_ok-check.ensures.lawful.apart;
       only = λ _. only_one_near model c.in_ok-check.ensures.lawful c.args.word.now c.args.marks.now;
     }
 
@@ -22,5 +23,6 @@ returns g c =
       sound = search rules;
       unsound = search rules;
       refused = search rules;
+      apart = λ _. c.in_ok-check.ensures.lawful.apart;
       only = λ _. only_one_near model c.in_ok-check.ensures.lawful c.args.word.now c.args.marks.now;
     }

@@ -1,0 +1,199 @@
+// Single words of a recipe: encoded, damaged, and decoded stage by stage.
+
+use crate::cells::{Columns, Word};
+use crate::describe::read_text;
+use crate::failure::Failure;
+use crate::watch::Watch;
+use chains::chain::Chain;
+use codes::code::Code;
+use recipe_piles::making::{chain_of, parts_of, pile_of};
+use recipe_piles::parts::Parts;
+use recipes::recipe::Recipe;
+use std::alloc::Global;
+use words::fault::Kind;
+
+fn recipe_of(heap: Global, text: &str) -> Result<Recipe, Failure> {
+    read_text(heap, text)?.map_err(Failure::Recipe)
+}
+
+fn word_of(heap: Global, text: &str) -> Result<Word, Failure> {
+    Word::parse(heap, text)?.ok_or(Failure::NotCells)
+}
+
+/// The codeword of a message, a column behind the other.
+pub(crate) fn encode(heap: Global, recipe: &str, message: &str) -> Result<String, Failure> {
+    let recipe = recipe_of(heap, recipe)?;
+    let message = Word::parse_bits(heap, message)?.ok_or(Failure::NotCells)?;
+    let pile = pile_of(&recipe)?;
+    let mut cells = vec![in heap; 0; pile.len()]?;
+    pile.encode(message.as_slice(), &mut cells)?;
+    let marks = vec![in heap; 0; pile.len()]?;
+    let columns = Columns {
+        cells: cells.as_slice(),
+        marks: marks.as_slice(),
+        breadth: chain_of(&recipe)?.breadth(),
+    };
+    Ok(format!(in heap; "{columns}\n")?)
+}
+
+/// A word of a recipe with some of its cells turned over or made blank.
+pub(crate) fn damage(
+    heap: Global,
+    recipe: &str,
+    word: &str,
+    changes: &[String],
+) -> Result<String, Failure> {
+    let recipe = recipe_of(heap, recipe)?;
+    let mut word = word_of(heap, word)?;
+    for change in changes {
+        if !word.damage(change.as_str()) {
+            return Err(Failure::NoChange);
+        }
+    }
+    let columns = Columns {
+        cells: word.cells.as_slice(),
+        marks: word.marks.as_slice(),
+        breadth: chain_of(&recipe)?.breadth(),
+    };
+    Ok(format!(in heap; "{columns}\n")?)
+}
+
+// What each stage makes of a word of the pile's length, as far as the first that has no choice.
+fn watch(heap: Global, parts: &Parts, word: &Word) -> Result<String, Failure> {
+    let mut text = String::new(heap);
+    let mut watch = Watch::new(heap, parts, word);
+    for (i, code) in parts.codes().iter().enumerate() {
+        let watched = watch.next(i.saturating_add(1), code)?;
+        write!(text, "{watched}")?;
+        if !watched.has_choice() {
+            break;
+        }
+    }
+    Ok(text)
+}
+
+// A codeword and its message.
+fn corrected(heap: Global, recipe: &Recipe, cells: &[u8]) -> Result<String, Failure> {
+    let pile = pile_of(recipe)?;
+    let mut message = vec![in heap; 0; pile.message_len()]?;
+    pile.message_of(cells, &mut message)?;
+    let marks = vec![in heap; 0; pile.len()]?;
+    let word = Columns {
+        cells,
+        marks: marks.as_slice(),
+        breadth: chain_of(recipe)?.breadth(),
+    };
+    // A message is shown byte by byte.
+    let message = Columns {
+        cells: message.as_slice(),
+        marks: marks.as_slice(),
+        breadth: 8,
+    };
+    Ok(format!(in heap; "word: {word}\nmessage: {message}\n")?)
+}
+
+/// The stages of a word's correction, and the answer: the harm, the codeword and its message, or the refusal.
+pub(crate) fn decode(heap: Global, recipe: &str, word: &str) -> Result<String, Failure> {
+    let recipe = recipe_of(heap, recipe)?;
+    let word = word_of(heap, word)?;
+    let pile = pile_of(&recipe)?;
+    let mut cells = Vec::from_slice(heap, word.cells.as_slice())?;
+    let answer = pile.correct(&mut cells, word.marks.as_slice());
+    if let Err(fault) = answer
+        && fault.kind != Kind::NoCodeword
+    {
+        return Err(Failure::Refused(fault));
+    }
+    let watched = watch(heap, &parts_of(&recipe)?, &word)?;
+    match answer {
+        Err(fault) => Ok(format!(in heap; "{watched}{fault}\n")?),
+        Ok(harm) => {
+            let reach = pile.distance();
+            let told = corrected(heap, &recipe, cells.as_slice())?;
+            Ok(format!(in heap;
+                "{watched}corrected, with harm {harm} below the reach {reach}\n{told}"
+            )?)
+        }
+    }
+}
+
+#[cfg(test)]
+mod tests {
+    use super::*;
+    use crate::describe::TextError;
+    use std::test::Fail;
+    use words::fault::{Fault, Layer};
+
+    // Four columns of two cells. The word of the labels a, b is b and then a + b. Stage 1 repeats one bit over inner distance 1, stage 2
+    // is open over inner distance 2, so that the reach is the lesser of 4 and 2.
+    const RECIPE: &str = "11 00 04 02 00 01 00 00 04";
+
+    // Labels 1 and, column by column, 0 1 1 0.
+    #[test]
+    fn a_message_is_encoded(rt: HostRuntime) -> Result<(), Fail> {
+        let word = encode(rt.alloc(), RECIPE, "1 0110")?;
+        assert!(rt; word.as_str() == "01 10 10 01\n");
+        Ok(())
+    }
+
+    #[test]
+    fn cells_are_damaged(rt: HostRuntime) -> Result<(), Fail> {
+        let heap = rt.alloc();
+        let changes = vec![in heap; String::from_str(heap, "0")?, String::from_str(heap, "7?")?]?;
+        let word = damage(heap, RECIPE, "01 10 10 01", changes.as_slice())?;
+        assert!(rt; word.as_str() == "11 10 10 0?\n");
+        let beyond = vec![in heap; String::from_str(heap, "8")?]?;
+        let refused = damage(heap, RECIPE, "01 10 10 01", beyond.as_slice());
+        assert!(rt; matches!(refused, Err(Failure::NoChange)));
+        Ok(())
+    }
+
+    // A blank cell hides stage 1 of its column, which counts 1, and stands one away from the row that stage 2 sees.
+    #[test]
+    fn a_blank_is_undone(rt: HostRuntime) -> Result<(), Fail> {
+        let told = decode(rt.alloc(), RECIPE, "0? 10 10 01")?;
+        let expected = "stage 1, distances 1 and 4
+  estimates, as label/harm: - 1/0 1/0 1/0
+  choice: 1 1 1 1, score 1
+stage 2, distances 2 and 1
+  estimates, as label/harm: 0/1 1/0 1/0 0/0
+  choice: 0 1 1 0, score 1
+corrected, with harm 1 below the reach 2
+word: 01 10 10 01
+message: 10110
+";
+        assert!(rt; told.as_str() == expected);
+        Ok(())
+    }
+
+    // Both words of stage 2 are two away from a column with a cell turned over.
+    #[test]
+    fn a_flip_is_refused(rt: HostRuntime) -> Result<(), Fail> {
+        let told = decode(rt.alloc(), RECIPE, "11 10 10 01")?;
+        let expected = "stage 1, distances 1 and 4
+  estimates, as label/harm: 0/0 1/0 1/0 1/0
+  choice: 1 1 1 1, score 2
+stage 2, distances 2 and 1
+  estimates, as label/harm: - 1/0 1/0 0/0
+  no choice
+refused 12 (code, place 2): no codeword near enough
+";
+        assert!(rt; told.as_str() == expected);
+        Ok(())
+    }
+
+    #[test]
+    fn other_texts_are_refused(rt: HostRuntime) -> Result<(), Fail> {
+        let heap = rt.alloc();
+        let blank = encode(heap, RECIPE, "1 011?");
+        assert!(rt; matches!(blank, Err(Failure::NotCells)));
+        let letter = decode(heap, RECIPE, "01 10 1x 01");
+        assert!(rt; matches!(letter, Err(Failure::NotCells)));
+        let recipe = encode(heap, "11", "1");
+        assert!(rt; matches!(recipe, Err(Failure::Recipe(TextError::Refused(_)))));
+        let short = decode(heap, RECIPE, "01");
+        let length = Fault::new(Kind::WrongLength, Layer::Code, 2);
+        assert!(rt; matches!(short, Err(Failure::Refused(fault)) if fault == length));
+        Ok(())
+    }
+}
