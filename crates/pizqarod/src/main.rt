@@ -1,14 +1,18 @@
 // The program: what a recipe is, which of many recipes serves best, and what becomes of a single word.
 #![tactic(auto)]
 
+mod actions;
 mod cells;
 mod describe;
 mod failure;
 mod hex;
+mod image;
+mod picture;
 mod single;
 mod survey;
 mod watch;
 
+use crate::actions::{act_on, run_script};
 use crate::failure::Failure;
 use crate::single::{damage, decode, encode};
 use anyhow::anyhow;
@@ -22,6 +26,14 @@ pizqarod encode HEX BITS  the codeword of a message, its columns one behind the 
 pizqarod damage HEX WORD CHANGE..
                           the word with cells changed: 17 turns cell 17 over, 17? makes it blank
 pizqarod decode HEX WORD  what each stage makes of the word, and the answer or the refusal
+
+pizqarod create IMAGE HEX PAGES         a new image, a file of packed pages
+pizqarod write IMAGE HEX PAGE FILE      a file's bytes over the pages from one on
+pizqarod read IMAGE HEX PAGE [COUNT]    the bytes of a page, or of some from one on
+pizqarod patrol IMAGE HEX [PAGE]        mends a page, or all
+pizqarod wear IMAGE HEX PAGE CELL STATE sets a cell to 0, 1 or 2, which is blank
+pizqarod inspect IMAGE HEX PAGE         a page's harm and blank cells, and a picture
+pizqarod run IMAGE HEX SCRIPT           such actions one after the other, a line each, as write PAGE FILE
 
 HEX is a recipe as hexadecimal text. BITS is a row of 0 and 1, WORD one of 0, 1 and ? for a blank cell; spaces do not count.";
 
@@ -64,6 +76,16 @@ fn run(rt: &HostRuntime, heap: Global) -> anyhow::Result<()> {
             tell(rt, damage(heap, recipe.as_str(), word.as_str(), changes))
         }
         ("decode", [recipe, word]) => tell(rt, decode(heap, recipe.as_str(), word.as_str())),
+        ("run", [image, recipe, script]) => {
+            run_script(rt, image.as_str(), recipe.as_str(), script.as_str())
+        }
+        (action, [image, recipe, rest @ ..]) => {
+            let mut words = vec![in heap; action]?;
+            for word in rest {
+                words.push(word.as_str())?;
+            }
+            act_on(rt, image.as_str(), recipe.as_str(), words.as_slice())
+        }
         _ => {
             rt.println(USAGE)?;
             Err(anyhow!("no such command"))

@@ -1,0 +1,206 @@
+// The pages of a packed image, under the code of a recipe.
+
+use crate::failure::Failure;
+use crate::picture::{Payload, Picture};
+use chains::chain::Chain;
+use codes::code::Code;
+use media::medium::Medium;
+use media::packed::Packed;
+use memories::memory::Memory;
+use recipe_piles::making::{chain_of, pile_of};
+use recipe_piles::parts::RecipePile;
+use recipes::recipe::Recipe;
+use std::alloc::{AllocError, Global};
+use words::fault::Fault;
+
+/// The bytes of an image, how they lie, and the pile that its pages are under.
+#[derive(Drop)]
+pub(crate) struct Image {
+    bytes: Vec<u8>,
+    pages: usize,
+    recipe: Recipe,
+    pile: RecipePile,
+    heap: Global,
+}
+
+// The bytes of a page of so many cells: a row of values and a row of marks, each in whole bytes.
+fn page_bytes(cells: usize) -> usize {
+    cells.div_ceil(8).saturating_mul(2)
+}
+
+impl Image {
+    /// The image that bytes hold. Where they are no whole pages, each action is refused.
+    pub(crate) fn open(heap: Global, recipe: &Recipe, bytes: Vec<u8>) -> Result<Self, Failure> {
+        Ok(Image {
+            pages: bytes.len() / page_bytes(recipe.cells()).max(1),
+            bytes,
+            recipe: *recipe,
+            pile: pile_of(recipe)?,
+            heap,
+        })
+    }
+
+    /// Begins anew with so many pages, each cell 0 and none blank.
+    pub(crate) fn renew(&mut self, pages: usize) -> Result<(), AllocError> {
+        let page = page_bytes(self.recipe.cells());
+        self.bytes = vec![in self.heap; 0; page.saturating_mul(pages)]?;
+        self.pages = pages;
+        Ok(())
+    }
+
+    pub(crate) fn bytes(&self) -> &[u8] {
+        self.bytes.as_slice()
+    }
+
+    pub(crate) fn pages(&self) -> usize {
+        self.pages
+    }
+
+    /// How many bytes a page holds.
+    pub(crate) fn payload(&self) -> usize {
+        self.recipe.bytes()
+    }
+
+    fn medium(&mut self) -> Packed<'_> {
+        Packed {
+            bytes: &mut self.bytes,
+            pages: self.pages,
+            breadth: self.recipe.cells(),
+        }
+    }
+
+    /// Writes a payload to a page and answers how many of its cells are blank.
+    pub(crate) fn write(&mut self, page: usize, payload: &[u8]) -> Result<usize, Fault> {
+        let pile = self.pile;
+        let mut medium = self.medium();
+        let mut memory = Memory {
+            medium: &mut medium,
+            code: pile,
+        };
+        memory.write(page, payload)
+    }
+
+    /// Reads a page into a payload and answers its harm.
+    pub(crate) fn read(&mut self, page: usize, payload: &mut [u8]) -> Result<usize, Fault> {
+        let pile = self.pile;
+        let mut medium = self.medium();
+        let mut memory = Memory {
+            medium: &mut medium,
+            code: pile,
+        };
+        memory.read(page, payload)
+    }
+
+    /// Puts a page's codeword back and answers the harm.
+    pub(crate) fn patrol(&mut self, page: usize) -> Result<usize, Fault> {
+        let pile = self.pile;
+        let mut medium = self.medium();
+        let mut memory = Memory {
+            medium: &mut medium,
+            code: pile,
+        };
+        memory.patrol(page)
+    }
+
+    /// Sets a cell to a state.
+    pub(crate) fn wear(&mut self, page: usize, cell: usize, state: u8) -> Result<(), Fault> {
+        let pile = self.pile;
+        let mut medium = self.medium();
+        let mut memory = Memory {
+            medium: &mut medium,
+            code: pile,
+        };
+        memory.wear(page, cell, state)
+    }
+
+    /// Shows a page: its harm, its blank cells, how far it is from the reach, and a picture.
+    pub(crate) fn inspect(&mut self, page: usize) -> Result<String, Failure> {
+        let (pile, heap) = (self.pile, self.heap);
+        let column = chain_of(&self.recipe)?.breadth();
+        let mut cells = vec![in heap; 0; self.recipe.cells()]?;
+        let mut marks = vec![in heap; 0; self.recipe.cells()]?;
+        if let Err(fault) = self.medium().fetch(page, &mut cells, &mut marks) {
+            let fault = fault.on_page(page);
+            return Ok(format!(in heap; "inspect page {page}: {fault}\n")?);
+        }
+        let mut corrected = Vec::from_slice(heap, cells.as_slice())?;
+        let blanks = marks.iter().filter(|mark| **mark != 0).count();
+        let answer = pile.correct(&mut corrected, marks.as_slice());
+        let picture = Picture {
+            cells: cells.as_slice(),
+            marks: marks.as_slice(),
+            corrected: corrected.as_slice(),
+            column,
+        };
+        let reach = pile.distance();
+        match answer {
+            Ok(harm) => {
+                let left = reach.saturating_sub(harm);
+                Ok(format!(in heap;
+                    "inspect page {page}: harm {harm}, {left} from the reach {reach}, {blanks} of its cells blank\n{picture}"
+                )?)
+            }
+            Err(fault) => {
+                let fault = fault.on_page(page);
+                Ok(format!(in heap;
+                    "inspect page {page}: {fault}, reach {reach}, {blanks} of its cells blank\n{picture}"
+                )?)
+            }
+        }
+    }
+}
+
+#[cfg(test)]
+mod tests {
+    use super::*;
+    use std::test::Fail;
+    use words::fault::{Kind, Layer};
+
+    // Eight columns of two cells. The word of the labels a, b is b and then a + b. Stage 1 repeats one bit and stage 2 is open: nine bits,
+    // a byte and a spare bit, with reach 2.
+    const RECIPE: [u8; 9] = [0x11, 0, 8, 2, 0, 1, 0, 0, 8];
+
+    fn image(heap: Global) -> Result<Image, Fail> {
+        let mut image = Image::open(heap, &Recipe::read(&RECIPE)?, Vec::new(heap))?;
+        image.renew(2)?;
+        Ok(image)
+    }
+
+    // The bits 1, then 0 1 1 0 0 1 0 and the spare 0: columns 01 10 10 01 01 10 01 01.
+    #[test]
+    fn a_page_lies_in_its_bytes(rt: HostRuntime) -> Result<(), Fail> {
+        let mut image = image(rt.alloc())?;
+        assert_eq!(rt; image.write(1, &[0xb2]), Ok(0));
+        assert!(rt; image.bytes() == [0, 0, 0, 0, 0x69, 0x65, 0, 0].as_slice());
+        let there = Fault::new(Kind::PageOutOfRange, Layer::Medium, 2).on_page(2);
+        assert_eq!(rt; image.patrol(2), Err(there));
+        Ok(())
+    }
+
+    // A blank cell is harm 1, and a cell turned over is harm 2, which is the reach.
+    #[test]
+    fn a_worn_page_is_read(rt: HostRuntime) -> Result<(), Fail> {
+        let mut image = image(rt.alloc())?;
+        let mut payload = [0];
+        assert_eq!(rt; image.write(0, &[0xb2]), Ok(0));
+        assert_eq!(rt; image.wear(0, 0, 2), Ok(()));
+        assert_eq!(rt; image.read(0, &mut payload), Ok(1));
+        assert_eq!(rt; payload, [0xb2]);
+        let shown = image.inspect(0)?;
+        let expected = "inspect page 0: harm 1, 1 from the reach 2, 1 of its cells blank
+  ?1
+  10
+  10
+  01
+  01
+  10
+  01
+  01
+";
+        assert!(rt; shown.as_str() == expected);
+        assert_eq!(rt; image.wear(0, 0, 1), Ok(()));
+        let none = Fault::new(Kind::NoCodeword, Layer::Code, 2).on_page(0);
+        assert_eq!(rt; image.read(0, &mut payload), Err(none));
+        Ok(())
+    }
+}
