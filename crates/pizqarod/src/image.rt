@@ -177,6 +177,37 @@ mod tests {
         Ok(())
     }
 
+    // Eight columns of eight cells with reach 8. In the codeword of zeros each stage's labels are 0. Cell 9j lies in column j, so that each
+    // damaged cell hides its column from stage 1 or turns its label over; four columns turned over, or eight hidden, score 8.
+    #[test]
+    fn harm_below_the_reach_is_undone(rt: HostRuntime) -> Result<(), Fail> {
+        let recipe = [0x13, 0, 8, 2, 0, 1, 1, 0, 5, 1, 0, 7, 0, 0, 8];
+        let mut image = Image::open(rt.alloc(), &Recipe::read(&recipe)?, Vec::new(rt.alloc()))?;
+        image.renew(4)?;
+        for (page, states) in [
+            [1, 1, 1, 2, 0, 0, 0, 0],
+            [2, 2, 2, 2, 2, 2, 2, 0],
+            [1, 1, 1, 1, 0, 0, 0, 0],
+            [2; 8],
+        ]
+        .iter()
+        .enumerate()
+        {
+            assert_eq!(rt; image.write(page, &[0; 5]), Ok(0));
+            for (j, state) in states.iter().enumerate() {
+                assert_eq!(rt; image.wear(page, 9 * j, *state), Ok(()));
+            }
+        }
+        let mut payload = [9; 5];
+        assert_eq!(rt; image.read(0, &mut payload), Ok(7));
+        assert_eq!(rt; payload, [0; 5]);
+        assert_eq!(rt; image.read(1, &mut payload), Ok(7));
+        let none = Fault::new(Kind::NoCodeword, Layer::Code, 1);
+        assert_eq!(rt; image.read(2, &mut payload), Err(none.on_page(2)));
+        assert_eq!(rt; image.read(3, &mut payload), Err(none.on_page(3)));
+        Ok(())
+    }
+
     // A blank cell is harm 1, and a cell turned over is harm 2, which is the reach.
     #[test]
     fn a_worn_page_is_read(rt: HostRuntime) -> Result<(), Fail> {
