@@ -4,8 +4,7 @@ use Rattle.std.specs.List.{AllByRecursion}
 use Rattle.words.specs.declared.fault.Fault.{Fault}
 use Rattle.codes.specs.Model.{CodeModel, Lawful}
 use Rattle.media_laws.specs.Model.{MediumModel, LawfulMedium}
-use Rattle.media.specs.Promises.{Worn}
-use Rattle.memory_laws.specs.Calls.{Joins, Written, Recalled, Patrolled, page_harm, recording}
+use Rattle.memory_laws.specs.Calls.{Joins, Written, Recalled, Patrolled, WornPage, page_harm, recording}
 use Rattle.memory_laws.specs.Payload.{page_bytes}
 
 -- one call with its answer, between two states of the medium
@@ -13,7 +12,7 @@ pub data Step (c : CodeModel) (m m' : MediumModel) : Type 0 where
   writes : (p : ℕ) (payload : List ℕ) (r : Result ℕ Fault) → Written m m' c p payload r → Step c m m'
   reads : (p : ℕ) (payload payload' : List ℕ) (r : Result ℕ Fault) → Recalled m m' c p payload payload' r → Step c m m'
   patrols : (p : ℕ) (r : Result ℕ Fault) → Patrolled m m' c p r → Step c m m'
-  wears : (p i s : ℕ) (r : Result (Unit {0}) Fault) → Worn m m' p i s r → Step c m m'
+  wears : (p i s : ℕ) (r : Result (Unit {0}) Fault) → WornPage m m' p i s r → Step c m m'
 
 -- a life from one state of the medium to another
 pub data Life (c : CodeModel) (m : MediumModel) : MediumModel → Type 0 where
