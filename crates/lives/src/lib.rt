@@ -1,0 +1,5 @@
+// Lives of a memory: lists of calls, done one after another, each with its answer.
+#![tactic(auto)]
+
+pub mod call;
+mod calls;
