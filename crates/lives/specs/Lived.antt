@@ -1,7 +1,10 @@
 -- Which calls a life is made of. Assumes nothing.
-use Rattle.std.specs.Prelude.{◌≡◌, ℕ, zero, suc, ◌*◌, List, take, drop, Some, Ok, Err, Result, slice_get}
+use Rattle.std.specs.Prelude.{◌≡◌, ℕ, zero, suc, ◌*◌, cond, List, take, drop, Some, None, Ok, Err, Option, Result, ◌==◌, slice_get}
 use Rattle.std.specs.Result as results
 use Rattle.words.specs.declared.fault.Fault.{Fault}
+use Rattle.words.specs.declared.fault.Kind.TheVariants.{WrongLength}
+use Rattle.words.specs.declared.fault.Layer.TheVariants.{Memory}
+use Rattle.words.specs.Faults.{fault}
 use Rattle.codes.specs.Model.{CodeModel}
 use Rattle.media_laws.specs.Model.{MediumModel}
 use Rattle.memory_laws.specs.Lives.{Step, Life}
@@ -28,3 +31,9 @@ Lived bytes calls answers room room' (Life.goes_on life step) zero = ⊥
 Lived bytes calls answers room room' (Life.goes_on life step) (suc n) =
     Lived bytes calls answers room room' life n
     × ((call : Call) × (slice_get calls n ≡ Some call) × ((answer : Result ℕ Fault) × (slice_get answers n ≡ Some answer) × Does call step answer (part_of bytes n room) (part_of bytes n room')))
+
+-- answers of another number than the calls are refused first, and then payloads that are not so many bytes for each call
+abbrev pub room_refusal : (calls bytes answers payloads : ℕ) → Option Fault
+room_refusal calls bytes answers payloads =
+    cond (answers == calls) (cond (payloads == bytes * calls) None (Some (fault WrongLength Memory payloads)))
+    (Some (fault WrongLength Memory answers))

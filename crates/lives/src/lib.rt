@@ -3,3 +3,5 @@
 
 pub mod call;
 mod calls;
+mod rooms;
+mod life;

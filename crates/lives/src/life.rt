@@ -1,0 +1,36 @@
+// A life of a memory: a list of calls, done one after another.
+ghost use Rattle.std.specs.Prelude.{◌≡◌, length, MatchResult, OnErr, OnOk};
+ghost use Rattle.memories.specs.Promises.{Joined, Kept, Refuses};
+ghost use Rattle.lives.specs.Promises.{Accepts, Apart, ComesBack, Lives, Nearest};
+
+use crate::call::{Answer, Call};
+use crate::calls::answer_calls;
+use crate::rooms::check_rooms;
+use codes::code::Code;
+use media::medium::Medium;
+use memories::memory::Memory;
+use words::fault::Fault;
+
+/// The calls on a memory over any code.
+fn live_over<M: Medium, C: Code>(
+    memory: &mut Memory<'_, M, C>,
+    calls: &[Call<'_>],
+    answers: &mut [Answer],
+    payloads: &mut [u8],
+) -> Result<(), Fault>
+    ensures lived { OnOk result (Lives M.Medium C.Code memory.old memory.new calls.now answers.new payloads.old payloads.new) }
+    ensures apart { Joined M.Medium C.Code memory.old → Apart (C.Code.model memory.old.code) }
+    ensures nearest { Joined M.Medium C.Code memory.old → Nearest (C.Code.model memory.old.code) }
+    ensures comes_back { Joined M.Medium C.Code memory.old → ComesBack M.Medium C.Code memory.old memory.new }
+    ensures accepted { Joined M.Medium C.Code memory.old → Accepts M.Medium C.Code memory.old (length calls.now) (length answers.old) (length payloads.old) result }
+    ensures joined { Joined M.Medium C.Code memory.old → Joined M.Medium C.Code memory.new }
+    ensures refused { (Joined M.Medium C.Code memory.old → ⊥) → MatchResult result (λ _. ⊥) (Refuses M.Medium C.Code memory.old) }
+    ensures stays { OnErr result ((memory.new.medium.now ≡ memory.old.medium.now) × (answers.new ≡ answers.old) × (payloads.new ≡ payloads.old)) }
+    ensures kept { Kept M.Medium C.Code memory.old memory.new }
+{
+    memory.check_join()?;
+    let bytes = memory.code.message_len() / 8;
+    check_rooms(calls.len(), bytes, answers.len(), payloads.len())?;
+    answer_calls(memory, calls, bytes, answers, payloads);
+    Ok(())
+}
