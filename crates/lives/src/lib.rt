@@ -4,4 +4,4 @@
 pub mod call;
 mod calls;
 mod rooms;
-mod life;
+pub mod life;

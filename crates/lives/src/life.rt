@@ -6,9 +6,11 @@ ghost use Rattle.lives.specs.Promises.{Accepts, Apart, ComesBack, Lives, Nearest
 use crate::call::{Answer, Call};
 use crate::calls::answer_calls;
 use crate::rooms::check_rooms;
+use chains::chain::Chain;
 use codes::code::Code;
 use media::medium::Medium;
 use memories::memory::Memory;
+use piles::pile::Pile;
 use words::fault::Fault;
 
 /// The calls on a memory over any code.
@@ -33,4 +35,24 @@ fn live_over<M: Medium, C: Code>(
     check_rooms(calls.len(), bytes, answers.len(), payloads.len())?;
     answer_calls(memory, calls, bytes, answers, payloads);
     Ok(())
+}
+
+/// Does calls on a memory over a pile, one after another, and gives the answer of each.
+pub fn live<M: Medium, H: Chain, A: Code>(
+    memory: &mut Memory<'_, M, Pile<H, A>>,
+    calls: &[Call<'_>],
+    answers: &mut [Answer],
+    payloads: &mut [u8],
+) -> Result<(), Fault>
+    ensures lived { OnOk result (Lives M.Medium ⟦<Pile<H, A> as Code>⟧ memory.old memory.new calls.now answers.new payloads.old payloads.new) }
+    ensures apart { Joined M.Medium ⟦<Pile<H, A> as Code>⟧ memory.old → Apart (⟦<Pile<H, A> as Code>⟧.model memory.old.code) }
+    ensures nearest { Joined M.Medium ⟦<Pile<H, A> as Code>⟧ memory.old → Nearest (⟦<Pile<H, A> as Code>⟧.model memory.old.code) }
+    ensures comes_back { Joined M.Medium ⟦<Pile<H, A> as Code>⟧ memory.old → ComesBack M.Medium ⟦<Pile<H, A> as Code>⟧ memory.old memory.new }
+    ensures accepted { Joined M.Medium ⟦<Pile<H, A> as Code>⟧ memory.old → Accepts M.Medium ⟦<Pile<H, A> as Code>⟧ memory.old (length calls.now) (length answers.old) (length payloads.old) result }
+    ensures joined { Joined M.Medium ⟦<Pile<H, A> as Code>⟧ memory.old → Joined M.Medium ⟦<Pile<H, A> as Code>⟧ memory.new }
+    ensures refused { (Joined M.Medium ⟦<Pile<H, A> as Code>⟧ memory.old → ⊥) → MatchResult result (λ _. ⊥) (Refuses M.Medium ⟦<Pile<H, A> as Code>⟧ memory.old) }
+    ensures stays { OnErr result ((memory.new.medium.now ≡ memory.old.medium.now) × (answers.new ≡ answers.old) × (payloads.new ≡ payloads.old)) }
+    ensures kept { Kept M.Medium ⟦<Pile<H, A> as Code>⟧ memory.old memory.new }
+{
+    live_over(memory, calls, answers, payloads)
 }
