@@ -5,7 +5,7 @@ use Rattle.words.specs.Distance.{differences}
 use Rattle.codes.specs.declared.code.Code.{Ghosts as CodeGhosts}
 use Rattle.codes.specs.Model.{CodeModel, Message, OnlyOneNear}
 use Rattle.media.specs.declared.medium.Medium.{Ghosts as MediumGhosts}
-use Rattle.memory_laws.specs.Lives.{Life, Returns}
+use Rattle.memory_laws.specs.Lives.{Life}
 use Rattle.memory_laws.specs.Payload.{page_bytes}
 use Rattle.memories.specs.declared.memory.Memory.{Memory}
 use Rattle.memories.specs.Promises.{Joined, Refuses}
@@ -16,7 +16,7 @@ use Rattle.lives.specs.Lived.{Lived, room_refusal}
 abbrev pub Apart : CodeModel → Type 0
 Apart c = (u v : List ℕ) → Message c u → Message c v → (u ≢ v) → c.distance ≤ differences (c.codeword u) (c.codeword v)
 
--- at most one codeword lies at harm below the reach
+-- at most one codeword lies at harm below the reach: what a read or a patrol answers is that one, and it is refused where there is none
 abbrev pub Nearest : CodeModel → Type 0
 Nearest c = (word marks : List ℕ) → OnlyOneNear c word marks
 
@@ -39,7 +39,3 @@ module _ {M C : Type 0} (media : MediumGhosts M) (codes : CodeGhosts C) (m : Mem
     abbrev pub Lives : List Call → List (Result ℕ Fault) → List ℕ → List ℕ → Type 0
     Lives calls answers payloads payloads' =
         (life : LifeOf) × Lived bytes_of_page calls answers payloads payloads' life (length calls)
-
-    -- over each of them the law of lives holds
-    abbrev pub ComesBack : Type 0
-    ComesBack = (life : LifeOf) → Returns (codes.model m.code) life

@@ -2,7 +2,7 @@
 use words::fault::Fault;
 
 /// A call, with what it is given.
-#[derive(Clone, Copy)]
+#[derive(Clone, Copy, PartialEq, Eq, Debug)]
 pub enum Call<'a> {
     Write { page: usize, payload: &'a [u8] },
     Read { page: usize },

@@ -3,5 +3,5 @@
 
 pub mod call;
 mod calls;
-mod rooms;
 pub mod life;
+mod rooms;

@@ -1,7 +1,8 @@
 // A life of a memory: a list of calls, done one after another.
 ghost use Rattle.std.specs.Prelude.{◌≡◌, length, MatchResult, OnErr, OnOk};
+ghost use Rattle.memory_laws.specs.Lives.{BringsBack};
 ghost use Rattle.memories.specs.Promises.{Joined, Kept, Refuses};
-ghost use Rattle.lives.specs.Promises.{Accepts, Apart, ComesBack, Lives, Nearest};
+ghost use Rattle.lives.specs.Promises.{Accepts, Apart, LifeOf, Lives, Nearest};
 
 use crate::call::{Answer, Call};
 use crate::calls::answer_calls;
@@ -23,7 +24,7 @@ fn live_over<M: Medium, C: Code>(
     ensures lived { OnOk result (Lives M.Medium C.Code memory.old memory.new calls.now answers.new payloads.old payloads.new) }
     ensures apart { Joined M.Medium C.Code memory.old → Apart (C.Code.model memory.old.code) }
     ensures nearest { Joined M.Medium C.Code memory.old → Nearest (C.Code.model memory.old.code) }
-    ensures comes_back { Joined M.Medium C.Code memory.old → ComesBack M.Medium C.Code memory.old memory.new }
+    ensures comes_back { Joined M.Medium C.Code memory.old → (life : LifeOf M.Medium C.Code memory.old memory.new) → BringsBack (C.Code.model memory.old.code) life }
     ensures accepted { Joined M.Medium C.Code memory.old → Accepts M.Medium C.Code memory.old (length calls.now) (length answers.old) (length payloads.old) result }
     ensures joined { Joined M.Medium C.Code memory.old → Joined M.Medium C.Code memory.new }
     ensures refused { (Joined M.Medium C.Code memory.old → ⊥) → MatchResult result (λ _. ⊥) (Refuses M.Medium C.Code memory.old) }
@@ -47,7 +48,7 @@ pub fn live<M: Medium, H: Chain, A: Code>(
     ensures lived { OnOk result (Lives M.Medium ⟦<Pile<H, A> as Code>⟧ memory.old memory.new calls.now answers.new payloads.old payloads.new) }
     ensures apart { Joined M.Medium ⟦<Pile<H, A> as Code>⟧ memory.old → Apart (⟦<Pile<H, A> as Code>⟧.model memory.old.code) }
     ensures nearest { Joined M.Medium ⟦<Pile<H, A> as Code>⟧ memory.old → Nearest (⟦<Pile<H, A> as Code>⟧.model memory.old.code) }
-    ensures comes_back { Joined M.Medium ⟦<Pile<H, A> as Code>⟧ memory.old → ComesBack M.Medium ⟦<Pile<H, A> as Code>⟧ memory.old memory.new }
+    ensures comes_back { Joined M.Medium ⟦<Pile<H, A> as Code>⟧ memory.old → (life : LifeOf M.Medium ⟦<Pile<H, A> as Code>⟧ memory.old memory.new) → BringsBack (⟦<Pile<H, A> as Code>⟧.model memory.old.code) life }
     ensures accepted { Joined M.Medium ⟦<Pile<H, A> as Code>⟧ memory.old → Accepts M.Medium ⟦<Pile<H, A> as Code>⟧ memory.old (length calls.now) (length answers.old) (length payloads.old) result }
     ensures joined { Joined M.Medium ⟦<Pile<H, A> as Code>⟧ memory.old → Joined M.Medium ⟦<Pile<H, A> as Code>⟧ memory.new }
     ensures refused { (Joined M.Medium ⟦<Pile<H, A> as Code>⟧ memory.old → ⊥) → MatchResult result (λ _. ⊥) (Refuses M.Medium ⟦<Pile<H, A> as Code>⟧ memory.old) }

@@ -54,13 +54,13 @@ pub record Standing (c : CodeModel) (m : MediumModel) (p : ℕ) (payload : List 
   -- and a patrol is accepted
   pub patrol_accepted : page_harm m p (recording c payload) < c.distance → (m' : MediumModel) (r : Result ℕ Fault) → Patrolled m m' c p r → is_ok r ≡ true
 
--- what a life from a lawful medium that fits leaves of each page: what was last written comes back, and a write is accepted
-abbrev pub Returns : (c : CodeModel) {m m' : MediumModel} → Life c m m' → Type 0
-Returns c {m} {m'} life =
+-- a life brings back what it last wrote to each page, and a further write is accepted
+abbrev pub BringsBack : (c : CodeModel) {m m' : MediumModel} → Life c m m' → Type 0
+BringsBack c {m} {m'} life =
     (p : ℕ) → p < m.pages
     → ((payload : List ℕ) → LastWrite c p payload life → PatrolsNear c p payload life → Standing c m' p payload (λ i. WornSince c p i life))
     × ((m'' : MediumModel) (payload : List ℕ) (r : Result ℕ Fault) → length payload ≡ page_bytes c.message_len → AllByRecursion (λ b. b < 256) payload → Written m' m'' c p payload r → is_ok r ≡ true)
 
 -- the law of lives: over every life of a memory, what was written comes back while the harm stays below the reach
 abbrev pub ComesBack : CodeModel → Type 0
-ComesBack c = Lawful c → (m m' : MediumModel) → LawfulMedium m → Joins m c → (life : Life c m m') → Returns c life
+ComesBack c = Lawful c → (m m' : MediumModel) → LawfulMedium m → Joins m c → (life : Life c m m') → BringsBack c life
