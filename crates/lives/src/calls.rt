@@ -1,7 +1,6 @@
 // The calls of a list on a memory whose parts are joined.
 ghost use Rattle.std.specs.Prelude.{◌≡◌, ◌*◌, length};
 ghost use Rattle.memory_laws.specs.Lives.{Life, Step};
-ghost use Rattle.memory_laws.specs.Payload.{page_bytes};
 ghost use Rattle.memories.specs.Promises.{Done, Joined, Kept};
 ghost use Rattle.lives.specs.Lived.{Does, Lived};
 

@@ -1,5 +1,5 @@
 // The room that a list of calls is lent.
-ghost use Rattle.std.specs.Prelude.{◌≡◌, ◌≤◌};
+ghost use Rattle.std.specs.Prelude.{◌≡◌};
 ghost use Rattle.words.specs.Buffers.{checked};
 ghost use Rattle.lives.specs.Lived.{room_refusal};
 

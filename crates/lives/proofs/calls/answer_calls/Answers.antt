@@ -1,10 +1,7 @@
-use Rattle.std.proofs.Common.{◌≡◌, ℕ, ◌+◌, ◌-◌, ◌*◌, ◌≤◌, length, get_or, take, drop, set, refl, sym, ap, ◌∙◌, subst, arith}
-use borrow.Rule.Slice.PartMut.{put_mid}
+use Rattle.std.proofs.Common.{◌≡◌, ℕ, ◌+◌, ◌-◌, ◌*◌, ◌≤◌, length, take, drop, refl, ap, ◌∙◌, arith}
 use Rattle.std.proofs.lemmas.List.{length-drop, length-take-le}
-use Rattle.std.proofs.lemmas.Option.{slice_get-get_or}
-use Rattle.memory_laws.specs.Lives.{Life, Step}
+use Rattle.memory_laws.specs.Lives.{Life}
 use Rattle.pile_laws.proofs.Flat.{part_in}
-use Rattle.lives.specs.Lived.{Does, Lived}
 use Rattle.lives.proofs.Living.{ahead_more, joined_on, kept_on, lived_on}
 use Rattle.lives.proofs.calls.answer_calls.Goals as goal
 
