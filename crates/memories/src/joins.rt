@@ -9,7 +9,7 @@ use words::fault::{Fault, Kind, Layer};
 
 impl<M: Medium, C: Code> Memory<'_, M, C> {
     /// Refuses a medium or a code that is not sound, and a code whose width is not 1, whose length is not a page's, or that carries no byte.
-    pub(crate) fn check_join(&self) -> Result<(), Fault>
+    pub fn check_join(&self) -> Result<(), Fault>
         ensures { MatchResult result (λ _. Joined M.Medium C.Code self.now) (Refuses M.Medium C.Code self.now) }
     {
         self.medium.check()?;

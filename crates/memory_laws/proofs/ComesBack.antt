@@ -1,11 +1,8 @@
 -- While the harm is below the reach, reads give back what was written, and patrols and writes are accepted. Assumes nothing.
-use Rattle.std.proofs.Common.{◌≡◌, ℕ, ◌+◌, ◌-◌, ◌*◌, ◌<◌, ◌≤◌, true, List, [], ◌∷◌, length, get_or, drop, is_ok, None, Ok, Err, Result, sym, refl, ap, ◌∙◌, inl, inr, ⊎_elim, arith}
+use Rattle.std.proofs.Common.{◌≡◌, ℕ, ◌<◌, true, List, [], ◌∷◌, length, is_ok, None, Ok, Err, Result, refl, ap, ◌∙◌, arith}
 use Rattle.std.specs.Result as results
 use Rattle.std.specs.List.{AllByRecursion}
-use Rattle.std.proofs.ByRecursion.{All-get_or}
-use Rattle.std.proofs.lemmas.List.{get_or-drop, get_or_past}
 use Rattle.std.proofs.lemmas.Option.{MatchOption-at_none}
-use Rattle.std.proofs.lemmas.Bool.{cases_lt}
 use Rattle.words.specs.declared.fault.Fault.{Fault}
 use Rattle.words.specs.declared.fault.Layer.TheVariants.{Memory}
 use Rattle.words.specs.Buffers.{either, refusal, written_to}
@@ -16,6 +13,7 @@ use Rattle.memory_laws.specs.Calls.{Joins, Recalled, Patrolled, Restores, Unrest
 use Rattle.memory_laws.specs.Lives.{ComesBack}
 use Rattle.memory_laws.specs.Payload.{carrying, bytes_of, page_bytes}
 use Rattle.memory_laws.proofs.Accepts.{page_passes}
+use Rattle.memory_laws.proofs.Exact.{not_both}
 use Rattle.memory_laws.proofs.Lives.{life_follows, last_payload, restored, unworn_match, joins_on}
 use Rattle.memory_laws.proofs.Outcomes.{PagePayload}
 use Rattle.memory_laws.proofs.Payloads.{carrying_clear, payload_back}
@@ -26,30 +24,13 @@ payload_passes m c p payload l pp =
     ap (λ due. either due (refusal Memory (written_to (page_bytes c.message_len) payload ∷ []))) (page_passes m p l)
     ∙ none_from_fits Memory (written_to (page_bytes c.message_len) payload ∷ []) (pp, tt)
 
--- the spare bits of what carries a payload are 0
-spare_zero : (k : ℕ) (payload : List ℕ) → length payload ≡ page_bytes k → (bit : ℕ) → 8 * page_bytes k ≤ bit → get_or (carrying k payload) bit 0 ≡ 0
-spare_zero k payload e bit l = at ∙ ⊎_elim inside past (cases_lt (bit - 8 * page_bytes k) (length (drop (8 * page_bytes k) (carrying k payload))))
-  where
-    at : get_or (carrying k payload) bit 0 ≡ get_or (drop (8 * page_bytes k) (carrying k payload)) (bit - 8 * page_bytes k) 0
-    at = let same : bit ≡ 8 * page_bytes k + (bit - 8 * page_bytes k) = omega arith in ap (λ b. get_or (carrying k payload) b 0) same ∙ sym (get_or-drop (8 * page_bytes k) (carrying k payload) (bit - 8 * page_bytes k) 0)
-
-    inside : bit - 8 * page_bytes k < length (drop (8 * page_bytes k) (carrying k payload)) → get_or (drop (8 * page_bytes k) (carrying k payload)) (bit - 8 * page_bytes k) 0 ≡ 0
-    inside h = All-get_or (λ b. b ≡ 0) (drop (8 * page_bytes k) (carrying k payload)) (bit - 8 * page_bytes k) 0 h (carrying_clear k payload e)
-
-    past : length (drop (8 * page_bytes k) (carrying k payload)) ≤ bit - 8 * page_bytes k → get_or (drop (8 * page_bytes k) (carrying k payload)) (bit - 8 * page_bytes k) 0 ≡ 0
-    past h = get_or_past (drop (8 * page_bytes k) (carrying k payload)) (bit - 8 * page_bytes k) 0 h
-
 module _ (c : CodeModel) (lc : Lawful c) (m : MediumModel) (h : LawfulMedium m) (j : Joins m c) (p : ℕ) (within : p < m.pages) (payload : List ℕ) (pp : PagePayload c payload) (near : page_harm m p (recording c payload) < c.distance) where
   only : (u : List ℕ) → Near c (word_of m p) (marks_of m p) u → u ≡ carrying c.message_len payload
   only u nu = restored c lc p m h j within payload pp near u nu
 
   -- such a page is never refused
   never : (f : Fault) → Unrestored m c p f → ⊥
-  never f (inl o) = o.3 (carrying c.message_len payload) (carrying_message c payload j.bits pp.0, near)
-  never f (inr o) =
-      let zero = spare_zero c.message_len payload pp.0 o.2 o.4.spare in
-      let is = only o.0 o.1 in
-      omega (arith, o.4.set, ap (λ u. get_or u o.2 0) is, zero)
+  never f o = not_both c lc m h j p within (carrying c.message_len payload) ((carrying_message c payload j.bits pp.0, near), carrying_clear c.message_len payload pp.0) f o
 
   pub read_gives : (m' : MediumModel) (buffer buffer' : List ℕ) (r : Result ℕ Fault) → length buffer ≡ page_bytes c.message_len → AllByRecursion (λ b. b < 256) buffer → Recalled m m' c p buffer buffer' r → (r ≡ Ok (page_harm m p (recording c payload))) × (buffer' ≡ payload)
   read_gives m' buffer buffer' r long bytes w = by r refl (MatchOption-at_none _ _ (payload_passes m c p buffer within (long, bytes)) w.1)

@@ -1,5 +1,6 @@
 pub mod Accepts
 pub mod ComesBack
+pub mod Exact
 pub mod Gathering
 pub mod Lives
 pub mod Outcomes

@@ -10,9 +10,9 @@ use Rattle.words.specs.Faults.{on_page}
 use Rattle.words.proofs.Passes.{fits_from_none, none_left, none_right}
 use Rattle.codes.specs.Model.{CodeModel}
 use Rattle.media_laws.specs.Model.{MediumModel, stored, Unchanged, Changed}
-use Rattle.media.specs.Promises.{Worn, page_refusal, cell_refusal}
+use Rattle.media.specs.Promises.{page_refusal, cell_refusal}
 use Rattle.media.proofs.Working.{page_passed, cell_passed}
-use Rattle.memory_laws.specs.Calls.{Written, Patrolled, Restores, Unrestored, blanks, page_harm, payload_refusal, recording}
+use Rattle.memory_laws.specs.Calls.{Written, Patrolled, WornPage, Restores, Unrestored, blanks, page_harm, payload_refusal, recording}
 use Rattle.memory_laws.specs.Payload.{page_bytes}
 
 pub page_there : (m : MediumModel) (p : ℕ) → page_refusal m p ≡ None → p < m.pages
@@ -58,10 +58,10 @@ module _ (m m' : MediumModel) where
   abbrev pub WearAccepted : ℕ → ℕ → ℕ → Type 0
   WearAccepted p i s = (p < m.pages) × ((s ≤ 2) × Changed m m' p (set (m.page p) i s))
 
-  pub wear_outcome : (p i s : ℕ) (r : Result (Unit {0}) Fault) → Worn m m' p i s r → Outcome r (WearAccepted p i s) (Unchanged m m')
+  pub wear_outcome : (p i s : ℕ) (r : Result (Unit {0}) Fault) → WornPage m m' p i s r → Outcome r (WearAccepted p i s) (Unchanged m m')
   wear_outcome p i s r w = by (either (page_refusal m p) (cell_refusal m i s)) refl w
     where
-      by : (due : Option Fault) → either (page_refusal m p) (cell_refusal m i s) ≡ due → options.MatchOption due ((r ≡ Ok tt) × Changed m m' p (set (m.page p) i s)) (λ f. (r ≡ Err f) × Unchanged m m') → Outcome r (WearAccepted p i s) (Unchanged m m')
+      by : (due : Option Fault) → either (page_refusal m p) (cell_refusal m i s) ≡ due → options.MatchOption due ((r ≡ Ok tt) × Changed m m' p (set (m.page p) i s)) (λ f. (r ≡ Err (on_page f p)) × Unchanged m m') → Outcome r (WearAccepted p i s) (Unchanged m m')
       by None e h =
           let cell = cell_passed i m.breadth s _ (none_right (page_refusal m p) _ e) in
           inl (ap is_ok h.0, (page_there m p (none_left (page_refusal m p) _ e), (cell.1, h.1)))

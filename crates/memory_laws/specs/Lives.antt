@@ -1,11 +1,12 @@
 -- Lives of a memory: any list of writes, reads, patrols and wear, accepted or refused. Assumes nothing.
-use Rattle.std.specs.Prelude.{◌≡◌, ℕ, ◌<◌, true, ◌&&◌, List, length, is_ok, Ok, MatchBool, Result, ◌==◌, ◌≢◌, slice_index, slice_index_or}
+use Rattle.std.specs.Prelude.{◌≡◌, ℕ, ◌<◌, true, ◌&&◌, List, length, is_ok, None, Ok, MatchBool, Result, ◌==◌, ◌≢◌, slice_index, slice_index_or}
+use Rattle.std.specs.Result as results
 use Rattle.std.specs.List.{AllByRecursion}
 use Rattle.words.specs.declared.fault.Fault.{Fault}
-use Rattle.codes.specs.Model.{CodeModel, Lawful}
+use Rattle.codes.specs.Model.{CodeModel, Lawful, Near}
 use Rattle.media_laws.specs.Model.{MediumModel, LawfulMedium}
-use Rattle.media.specs.Promises.{Worn}
-use Rattle.memory_laws.specs.Calls.{Joins, Written, Recalled, Patrolled, page_harm, recording}
+use Rattle.media.specs.Promises.{page_refusal}
+use Rattle.memory_laws.specs.Calls.{Joins, Written, Recalled, Patrolled, Restores, WornPage, word_of, marks_of, page_harm, payload_refusal, recording}
 use Rattle.memory_laws.specs.Payload.{page_bytes}
 
 -- one call with its answer, between two states of the medium
@@ -13,12 +14,29 @@ pub data Step (c : CodeModel) (m m' : MediumModel) : Type 0 where
   writes : (p : ℕ) (payload : List ℕ) (r : Result ℕ Fault) → Written m m' c p payload r → Step c m m'
   reads : (p : ℕ) (payload payload' : List ℕ) (r : Result ℕ Fault) → Recalled m m' c p payload payload' r → Step c m m'
   patrols : (p : ℕ) (r : Result ℕ Fault) → Patrolled m m' c p r → Step c m m'
-  wears : (p i s : ℕ) (r : Result (Unit {0}) Fault) → Worn m m' p i s r → Step c m m'
+  wears : (p i s : ℕ) (r : Result (Unit {0}) Fault) → WornPage m m' p i s r → Step c m m'
 
 -- a life from one state of the medium to another
 pub data Life (c : CodeModel) (m : MediumModel) : MediumModel → Type 0 where
   begins : Life c m m
   goes_on : {m' m'' : MediumModel} → Life c m m' → Step c m' m'' → Life c m m''
+
+-- a page is corrected exactly where some message restores it: to that one, the only one whose codeword is so near, with its harm
+abbrev pub Corrects : CodeModel → MediumModel → ℕ → Result ℕ Fault → Type 0
+Corrects c m p r =
+    results.MatchResult r
+    (λ h. (u : List ℕ) × Restores m c p u × ((v : List ℕ) → Near c (word_of m p) (marks_of m p) v → v ≡ u) × (h ≡ page_harm m p (c.codeword u)))
+    (λ f. (u : List ℕ) → Restores m c p u → ⊥)
+
+-- so does each read and each patrol of a life that is not refused by its page or its buffer
+abbrev pub CorrectsEach : {c : CodeModel} {m m' : MediumModel} → Life c m m' → Type 0
+CorrectsEach begins = Unit {0}
+CorrectsEach (goes_on life (writes p payload r w)) = CorrectsEach life
+CorrectsEach {c} (goes_on {m' = before} life (reads p buffer buffer' r w)) =
+    (payload_refusal before c p buffer ≡ None → Corrects c before p r) × CorrectsEach life
+CorrectsEach {c} (goes_on {m' = before} life (patrols p r w)) =
+    (page_refusal before p ≡ None → Corrects c before p r) × CorrectsEach life
+CorrectsEach (goes_on life (wears p i s r w)) = CorrectsEach life
 
 module _ (c : CodeModel) {m : MediumModel} (p : ℕ) where
   -- the last accepted write of the page had this payload
@@ -55,9 +73,13 @@ pub record Standing (c : CodeModel) (m : MediumModel) (p : ℕ) (payload : List 
   -- and a patrol is accepted
   pub patrol_accepted : page_harm m p (recording c payload) < c.distance → (m' : MediumModel) (r : Result ℕ Fault) → Patrolled m m' c p r → is_ok r ≡ true
 
--- the law of lives: over every life of a memory, what was written comes back while the harm stays below the reach
-abbrev pub ComesBack : CodeModel → Type 0
-ComesBack c =
-    Lawful c → (m m' : MediumModel) → LawfulMedium m → Joins m c → (life : Life c m m') (p : ℕ) → p < m.pages
+-- a life brings back what it last wrote to each page, and a further write is accepted
+abbrev pub BringsBack : (c : CodeModel) {m m' : MediumModel} → Life c m m' → Type 0
+BringsBack c {m} {m'} life =
+    (p : ℕ) → p < m.pages
     → ((payload : List ℕ) → LastWrite c p payload life → PatrolsNear c p payload life → Standing c m' p payload (λ i. WornSince c p i life))
     × ((m'' : MediumModel) (payload : List ℕ) (r : Result ℕ Fault) → length payload ≡ page_bytes c.message_len → AllByRecursion (λ b. b < 256) payload → Written m' m'' c p payload r → is_ok r ≡ true)
+
+-- the law of lives: over every life of a memory, what was written comes back while the harm stays below the reach
+abbrev pub ComesBack : CodeModel → Type 0
+ComesBack c = Lawful c → (m m' : MediumModel) → LawfulMedium m → Joins m c → (life : Life c m m') → BringsBack c life

@@ -1,5 +1,7 @@
-// Examples of the media and of a memory, worked out by hand and run.
+// Examples of the media, of a memory and of its lives, worked out by hand and run.
 #![tactic(auto)]
 
+#[cfg(test)]
+mod life;
 #[cfg(test)]
 mod tests;

@@ -1,0 +1,2 @@
+pub mod Lived
+pub mod Promises

@@ -1,0 +1,39 @@
+-- Which calls a life is made of. Assumes nothing.
+use Rattle.std.specs.Prelude.{◌≡◌, ℕ, zero, suc, ◌*◌, cond, List, take, drop, Some, None, Ok, Err, Option, Result, ◌==◌, slice_get}
+use Rattle.std.specs.Result as results
+use Rattle.words.specs.declared.fault.Fault.{Fault}
+use Rattle.words.specs.declared.fault.Kind.TheVariants.{WrongLength}
+use Rattle.words.specs.declared.fault.Layer.TheVariants.{Memory}
+use Rattle.words.specs.Faults.{fault}
+use Rattle.codes.specs.Model.{CodeModel}
+use Rattle.media_laws.specs.Model.{MediumModel}
+use Rattle.memory_laws.specs.Lives.{Step, Life}
+use Rattle.lives.specs.declared.call.Call.{Call}
+use Rattle.lives.specs.declared.call.Call.TheVariants.{Write, Read, Patrol, Wear}
+
+-- a step is what this call did, with its answer, and its part of the room before and after, which only a read fills
+abbrev pub Does : {c : CodeModel} {m m' : MediumModel} → Call → Step c m m' → Result ℕ Fault → List ℕ → List ℕ → Type 0
+Does (Write page payload) (Step.writes p written r w) answer part part' = (page ≡ p) × (payload.now ≡ written) × (answer ≡ r) × (part' ≡ part)
+Does (Read page) (Step.reads p b b' r w) answer part part' = (page ≡ p) × (part ≡ b) × (part' ≡ b') × (answer ≡ r)
+Does (Patrol page) (Step.patrols p r w) answer part part' = (page ≡ p) × (answer ≡ r) × (part' ≡ part)
+Does (Wear page cell state) (Step.wears p i s r w) answer part part' =
+    (page ≡ p) × (cell ≡ i) × (state ≡ s) × (part' ≡ part) × results.MatchResult r (λ _. answer ≡ Ok 0) (λ f. answer ≡ Err f)
+Does _ _ answer part part' = ⊥
+
+-- the part of a room that belongs to one call
+abbrev pub part_of : ℕ → ℕ → List ℕ → List ℕ
+part_of bytes i room = take bytes (drop (bytes * i) room)
+
+-- a life is the first n calls, in their order, with their answers and their parts of the room
+abbrev pub Lived : (bytes : ℕ) (calls : List Call) (answers : List (Result ℕ Fault)) (room room' : List ℕ) {c : CodeModel} {m m' : MediumModel} → Life c m m' → ℕ → Type 0
+Lived bytes calls answers room room' Life.begins n = n ≡ 0
+Lived bytes calls answers room room' (Life.goes_on life step) zero = ⊥
+Lived bytes calls answers room room' (Life.goes_on life step) (suc n) =
+    Lived bytes calls answers room room' life n
+    × ((call : Call) × (slice_get calls n ≡ Some call) × ((answer : Result ℕ Fault) × (slice_get answers n ≡ Some answer) × Does call step answer (part_of bytes n room) (part_of bytes n room')))
+
+-- answers of another number than the calls are refused first, and then payloads that are not so many bytes for each call
+abbrev pub room_refusal : (calls bytes answers payloads : ℕ) → Option Fault
+room_refusal calls bytes answers payloads =
+    cond (answers == calls) (cond (payloads == bytes * calls) None (Some (fault WrongLength Memory payloads)))
+    (Some (fault WrongLength Memory answers))

@@ -1,0 +1,53 @@
+// The calls of a list on a memory whose parts are joined.
+ghost use Rattle.std.specs.Prelude.{◌≡◌, ◌*◌, length};
+ghost use Rattle.memory_laws.specs.Lives.{Life, Step};
+ghost use Rattle.memories.specs.Promises.{Done, Joined, Kept};
+ghost use Rattle.lives.specs.Lived.{Does, Lived};
+
+use crate::call::{Answer, Call};
+use codes::code::Code;
+use media::medium::Medium;
+use memories::memory::Memory;
+
+/// One call, which fills the room only where it reads.
+fn answer_call<M: Medium, C: Code>(
+    memory: &mut Memory<'_, M, C>,
+    call: &Call<'_>,
+    room: &mut [u8],
+) -> Answer
+    requires { Joined M.Medium C.Code memory.old }
+    ensures done { Done M.Medium C.Code memory.old memory.new (λ m m' c. (step : Step c m m') × Does call.now step result room.old room.new) }
+    ensures kept { Kept M.Medium C.Code memory.old memory.new }
+{
+    match *call {
+        Call::Write { page, payload } => memory.write(page, payload),
+        Call::Read { page } => memory.read(page, room),
+        Call::Patrol { page } => memory.patrol(page),
+        Call::Wear { page, cell, state } => {
+            memory.wear(page, cell, state)?;
+            Ok(0)
+        }
+    }
+}
+
+/// The calls one after another, each with its place for an answer and its part of the room.
+pub(crate) fn answer_calls<M: Medium, C: Code>(
+    memory: &mut Memory<'_, M, C>,
+    calls: &[Call<'_>],
+    bytes: usize,
+    answers: &mut [Answer],
+    room: &mut [u8],
+)
+    requires joined { Joined M.Medium C.Code memory.old }
+    requires answers { length answers.old ≡ length calls.now }
+    requires room { length room.old ≡ bytes * length calls.now }
+    ensures lived { (life : Life (C.Code.model memory.old.code) (M.Medium.model memory.old.medium.now) (M.Medium.model memory.new.medium.now)) × Lived bytes calls.now answers.new room.old room.new life (length calls.now) }
+    ensures joined { Joined M.Medium C.Code memory.new }
+    ensures kept { Kept M.Medium C.Code memory.old memory.new }
+{
+    // By index: of what `chunks_mut` lends, a proof knows nothing afterwards.
+    for (i, call) in calls.iter().enumerate() {
+        let start = bytes * i;
+        answers[i] = answer_call(memory, call, &mut room[start..start + bytes]);
+    }
+}
