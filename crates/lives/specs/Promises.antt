@@ -1,19 +1,14 @@
 -- What a list of calls promises, whatever the medium and the code. Assumes nothing.
-use Rattle.std.specs.Prelude.{◌≡◌, ℕ, ◌≤◌, List, length, Ok, Err, Result, MatchOption, ◌≢◌}
+use Rattle.std.specs.Prelude.{◌≡◌, ℕ, List, length, Ok, Err, Result, MatchOption}
 use Rattle.words.specs.declared.fault.Fault.{Fault}
-use Rattle.words.specs.Distance.{differences}
 use Rattle.codes.specs.declared.code.Code.{Ghosts as CodeGhosts}
-use Rattle.codes.specs.Model.{CodeModel, Message, OnlyOneNear}
+use Rattle.codes.specs.Model.{CodeModel, OnlyOneNear}
 use Rattle.media.specs.declared.medium.Medium.{Ghosts as MediumGhosts}
 use Rattle.memory_laws.specs.Lives.{Life}
 use Rattle.memory_laws.specs.Payload.{page_bytes}
 use Rattle.memories.specs.declared.memory.Memory.{Memory}
 use Rattle.lives.specs.declared.call.Call.{Call}
 use Rattle.lives.specs.Lived.{Lived, room_refusal}
-
--- the codewords of different messages differ in at least as many cells as the reach
-abbrev pub Apart : CodeModel → Type 0
-Apart c = (u v : List ℕ) → Message c u → Message c v → (u ≢ v) → c.distance ≤ differences (c.codeword u) (c.codeword v)
 
 -- at most one codeword lies at harm below the reach of a word beside its marks
 abbrev pub Nearest : CodeModel → Type 0

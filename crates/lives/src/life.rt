@@ -2,7 +2,8 @@
 ghost use Rattle.std.specs.Prelude.{◌≡◌, length, MatchResult, OnErr, OnOk};
 ghost use Rattle.memory_laws.specs.Lives.{BringsBack, CorrectsEach};
 ghost use Rattle.memories.specs.Promises.{Joined, Kept, Refuses};
-ghost use Rattle.lives.specs.Promises.{Accepts, Apart, LifeOf, Lives, Nearest};
+ghost use Rattle.piles.specs.Sound.{LieApart};
+ghost use Rattle.lives.specs.Promises.{Accepts, LifeOf, Lives, Nearest};
 
 use crate::call::{Answer, Call};
 use crate::calls::answer_calls;
@@ -23,7 +24,7 @@ fn live_over<M: Medium, C: Code>(
     payloads: &mut [u8],
 ) -> Result<(), Fault>
     ensures lived { OnOk result (Lives M.Medium C.Code memory.old memory.new calls.now answers.new payloads.old payloads.new) }
-    ensures apart { Joined M.Medium C.Code memory.old → Apart (C.Code.model memory.old.code) }
+    ensures apart { Joined M.Medium C.Code memory.old → LieApart (C.Code.model memory.old.code) }
     ensures nearest { Joined M.Medium C.Code memory.old → Nearest (C.Code.model memory.old.code) }
     ensures corrects { Joined M.Medium C.Code memory.old → (life : LifeOf M.Medium C.Code memory.old memory.new) → CorrectsEach life }
     ensures comes_back { Joined M.Medium C.Code memory.old → (life : LifeOf M.Medium C.Code memory.old memory.new) → BringsBack (C.Code.model memory.old.code) life }
@@ -51,7 +52,7 @@ pub fn live<M: Medium, H: Chain, A: Code>(
     payloads: &mut [u8],
 ) -> Result<(), Fault>
     ensures lived { OnOk result (Lives M.Medium ⟦<Pile<H, A> as Code>⟧ memory.old memory.new calls.now answers.new payloads.old payloads.new) }
-    ensures apart { Joined M.Medium ⟦<Pile<H, A> as Code>⟧ memory.old → Apart (⟦<Pile<H, A> as Code>⟧.model memory.old.code) }
+    ensures apart { Joined M.Medium ⟦<Pile<H, A> as Code>⟧ memory.old → LieApart (⟦<Pile<H, A> as Code>⟧.model memory.old.code) }
     ensures nearest { Joined M.Medium ⟦<Pile<H, A> as Code>⟧ memory.old → Nearest (⟦<Pile<H, A> as Code>⟧.model memory.old.code) }
     ensures corrects { Joined M.Medium ⟦<Pile<H, A> as Code>⟧ memory.old → (life : LifeOf M.Medium ⟦<Pile<H, A> as Code>⟧ memory.old memory.new) → CorrectsEach life }
     ensures comes_back { Joined M.Medium ⟦<Pile<H, A> as Code>⟧ memory.old → (life : LifeOf M.Medium ⟦<Pile<H, A> as Code>⟧ memory.old memory.new) → BringsBack (⟦<Pile<H, A> as Code>⟧.model memory.old.code) life }

@@ -3,9 +3,10 @@
 use crate::describe::read_text;
 use crate::failure::Failure;
 use crate::image::Image;
-use crate::picture::Payload;
+use crate::told::Told;
 use anyhow::anyhow;
-use std::{fs, io};
+use lives::call::Call;
+use std::fs;
 
 /// One action on an image.
 #[derive(Clone, Copy)]
@@ -67,19 +68,39 @@ impl<'a> Action<'a> {
     }
 }
 
-// Writes the bytes of a file, a page behind the other; what is left of the last page is 0.
-fn write_file(rt: &HostRuntime, image: &mut Image, page: usize, file: &str) -> anyhow::Result<()> {
-    let bytes = fs::read(rt, file)?;
-    for (i, part) in bytes.as_slice().chunks(image.payload().max(1)).enumerate() {
-        let page = page.saturating_add(i);
-        let mut payload = Vec::from_slice(rt.alloc(), part)?;
-        payload.resize(image.payload(), 0)?;
-        match image.write(page, payload.as_slice()) {
-            Ok(blanks) => println!(rt; "write page {page}: {blanks} of its cells blank")?,
-            Err(fault) => println!(rt; "write page {page}: {fault}")?,
+// Does calls and prints each with its answer; of patrols of all pages only those that found harm.
+fn tell(
+    rt: &HostRuntime,
+    image: &mut Image,
+    calls: &[Call<'_>],
+    quiet: bool,
+) -> anyhow::Result<()> {
+    let outcome = image.live(calls)?;
+    let parts = outcome.payloads.chunks(image.payload().max(1));
+    for ((call, answer), payload) in calls.iter().zip(&outcome.answers).zip(parts) {
+        if !(quiet && *answer == Ok(0)) {
+            let told = Told {
+                call: *call,
+                answer: *answer,
+                payload,
+            };
+            println!(rt; "{told}")?;
         }
     }
     Ok(())
+}
+
+// Writes the bytes of a file, a page behind the other; what is left of the last page is 0.
+fn write_file(rt: &HostRuntime, image: &mut Image, page: usize, file: &str) -> anyhow::Result<()> {
+    let mut bytes = fs::read(rt, file)?;
+    let size = image.payload().max(1);
+    bytes.resize(bytes.len().div_ceil(size).saturating_mul(size), 0)?;
+    let mut calls = Vec::new(rt.alloc());
+    for (i, payload) in bytes.as_slice().chunks(size).enumerate() {
+        let page = page.saturating_add(i);
+        calls.push(Call::Write { page, payload })?;
+    }
+    tell(rt, image, calls.as_slice(), false)
 }
 
 fn read_pages(
@@ -88,49 +109,28 @@ fn read_pages(
     page: usize,
     count: usize,
 ) -> anyhow::Result<()> {
-    let mut payload = vec![in rt.alloc(); 0; image.payload()]?;
+    let mut calls = Vec::new(rt.alloc());
     for i in 0..count {
         let page = page.saturating_add(i);
-        match image.read(page, &mut payload) {
-            Ok(harm) => {
-                let bytes = Payload(payload.as_slice());
-                println!(rt; "read page {page}: harm {harm}, {bytes}")?;
-            }
-            Err(fault) => println!(rt; "read page {page}: {fault}")?,
-        }
+        calls.push(Call::Read { page })?;
     }
-    Ok(())
-}
-
-// Mends a page, and tells its harm where it had some, or the refusal. Answers whether it was mended.
-fn patrol(rt: &HostRuntime, image: &mut Image, page: usize) -> io::Result<bool> {
-    match image.patrol(page) {
-        Ok(0) => {}
-        Ok(harm) => println!(rt; "patrol page {page}: harm {harm}")?,
-        Err(fault) => {
-            println!(rt; "patrol page {page}: {fault}")?;
-            return Ok(false);
-        }
-    }
-    Ok(true)
+    tell(rt, image, calls.as_slice(), false)
 }
 
 // How many pages are patrolled between two lines of progress.
 const PROGRESS: usize = 4096;
 
-fn patrol_all(rt: &HostRuntime, image: &mut Image) -> io::Result<()> {
+fn patrol_all(rt: &HostRuntime, image: &mut Image) -> anyhow::Result<()> {
     let pages = image.pages();
-    let mut refused: usize = 0;
-    for page in 0..pages {
-        if !patrol(rt, image, page)? {
-            refused = refused.saturating_add(1);
-        }
-        let done = page.saturating_add(1);
-        if done % PROGRESS == 0 {
-            println!(rt; "patrolled {done} of {pages} pages")?;
-        }
+    for start in (0..pages).step_by(PROGRESS) {
+        let end = pages.min(start.saturating_add(PROGRESS));
+        let calls: Vec<Call<'_>> = (start..end)
+            .map(|page| Call::Patrol { page })
+            .collect(rt.alloc())?;
+        tell(rt, image, calls.as_slice(), true)?;
+        println!(rt; "patrolled {end} of {pages} pages")?;
     }
-    println!(rt; "patrolled all {pages} pages, {refused} refused")
+    Ok(())
 }
 
 // Does an action and prints its answer or its refusal.
@@ -142,16 +142,11 @@ fn act(rt: &HostRuntime, image: &mut Image, action: Action<'_>) -> anyhow::Resul
         }
         Action::Write { page, file } => write_file(rt, image, page, file)?,
         Action::Read { page, count } => read_pages(rt, image, page, count)?,
-        Action::Patrol { page } => {
-            if patrol(rt, image, page)? {
-                println!(rt; "patrolled page {page}")?;
-            }
-        }
+        Action::Patrol { page } => tell(rt, image, &[Call::Patrol { page }], false)?,
         Action::PatrolAll => patrol_all(rt, image)?,
-        Action::Wear { page, cell, state } => match image.wear(page, cell, state) {
-            Ok(()) => println!(rt; "wear page {page}, cell {cell}: {state}")?,
-            Err(fault) => println!(rt; "wear page {page}, cell {cell}: {fault}")?,
-        },
+        Action::Wear { page, cell, state } => {
+            tell(rt, image, &[Call::Wear { page, cell, state }], false)?;
+        }
         Action::Inspect { page } => rt.print(image.inspect(page)?.as_str())?,
     }
     Ok(())

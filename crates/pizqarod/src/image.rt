@@ -4,6 +4,8 @@ use crate::failure::Failure;
 use crate::picture::{Payload, Picture};
 use chains::chain::Chain;
 use codes::code::Code;
+use lives::call::{Answer, Call};
+use lives::life::live;
 use media::medium::Medium;
 use media::packed::Packed;
 use memories::memory::Memory;
@@ -11,7 +13,6 @@ use recipe_piles::making::{chain_of, pile_of};
 use recipe_piles::parts::RecipePile;
 use recipes::recipe::Recipe;
 use std::alloc::{AllocError, Global};
-use words::fault::Fault;
 
 /// The bytes of an image, how they lie, and the pile that its pages are under.
 #[derive(Drop)]
@@ -21,6 +22,13 @@ pub(crate) struct Image {
     recipe: Recipe,
     pile: RecipePile,
     heap: Global,
+}
+
+/// The answer of each call, and for each as many bytes as a page holds, which a read fills.
+#[derive(Drop)]
+pub(crate) struct Outcome {
+    pub(crate) answers: Vec<Answer>,
+    pub(crate) payloads: Vec<u8>,
 }
 
 // The bytes of a page of so many cells: a row of values and a row of marks, each in whole bytes.
@@ -69,48 +77,18 @@ impl Image {
         }
     }
 
-    /// Writes a payload to a page and answers how many of its cells are blank.
-    pub(crate) fn write(&mut self, page: usize, payload: &[u8]) -> Result<usize, Fault> {
+    /// Does calls on the pages, one after another.
+    pub(crate) fn live(&mut self, calls: &[Call<'_>]) -> Result<Outcome, Failure> {
+        let mut answers = vec![in self.heap; Ok(0); calls.len()]?;
+        let mut payloads = vec![in self.heap; 0; self.payload().saturating_mul(calls.len())]?;
         let pile = self.pile;
         let mut medium = self.medium();
         let mut memory = Memory {
             medium: &mut medium,
             code: pile,
         };
-        memory.write(page, payload)
-    }
-
-    /// Reads a page into a payload and answers its harm.
-    pub(crate) fn read(&mut self, page: usize, payload: &mut [u8]) -> Result<usize, Fault> {
-        let pile = self.pile;
-        let mut medium = self.medium();
-        let mut memory = Memory {
-            medium: &mut medium,
-            code: pile,
-        };
-        memory.read(page, payload)
-    }
-
-    /// Puts a page's codeword back and answers the harm.
-    pub(crate) fn patrol(&mut self, page: usize) -> Result<usize, Fault> {
-        let pile = self.pile;
-        let mut medium = self.medium();
-        let mut memory = Memory {
-            medium: &mut medium,
-            code: pile,
-        };
-        memory.patrol(page)
-    }
-
-    /// Sets a cell to a state.
-    pub(crate) fn wear(&mut self, page: usize, cell: usize, state: u8) -> Result<(), Fault> {
-        let pile = self.pile;
-        let mut medium = self.medium();
-        let mut memory = Memory {
-            medium: &mut medium,
-            code: pile,
-        };
-        memory.wear(page, cell, state)
+        live(&mut memory, calls, &mut answers, &mut payloads)?;
+        Ok(Outcome { answers, payloads })
     }
 
     /// Shows a page: its harm, its blank cells, how far it is from the reach, and a picture.
@@ -154,7 +132,7 @@ impl Image {
 mod tests {
     use super::*;
     use std::test::Fail;
-    use words::fault::{Kind, Layer};
+    use words::fault::{Fault, Kind, Layer};
 
     // Eight columns of two cells. The word of the labels a, b is b and then a + b. Stage 1 repeats one bit and stage 2 is open: nine bits,
     // a byte and a spare bit, with reach 2.
@@ -170,41 +148,47 @@ mod tests {
     #[test]
     fn a_page_lies_in_its_bytes(rt: HostRuntime) -> Result<(), Fail> {
         let mut image = image(rt.alloc())?;
-        assert_eq!(rt; image.write(1, &[0xb2]), Ok(0));
-        assert!(rt; image.bytes() == [0, 0, 0, 0, 0x69, 0x65, 0, 0].as_slice());
+        let write = Call::Write {
+            page: 1,
+            payload: &[0xb2],
+        };
+        let outcome = image.live(&[write, Call::Patrol { page: 2 }])?;
         let there = Fault::new(Kind::PageOutOfRange, Layer::Medium, 2).on_page(2);
-        assert_eq!(rt; image.patrol(2), Err(there));
+        assert!(rt; outcome.answers.as_slice() == [Ok(0), Err(there)].as_slice());
+        assert!(rt; image.bytes() == [0, 0, 0, 0, 0x69, 0x65, 0, 0].as_slice());
         Ok(())
     }
 
     // Eight columns of eight cells with reach 8. In the codeword of zeros each stage's labels are 0. Cell 9j lies in column j, so that each
     // damaged cell hides its column from stage 1 or turns its label over; four columns turned over, or eight hidden, score 8.
+    fn worn(heap: Global, states: &[u8; 8]) -> Result<Result<usize, Fault>, Fail> {
+        let recipe = [0x13, 0, 8, 2, 0, 1, 1, 0, 5, 1, 0, 7, 0, 0, 8];
+        let mut image = Image::open(heap, &Recipe::read(&recipe)?, Vec::new(heap))?;
+        image.renew(1)?;
+        let mut calls = Vec::new(heap);
+        for (j, state) in states.iter().enumerate() {
+            calls.push(Call::Wear {
+                page: 0,
+                cell: 9 * j,
+                state: *state,
+            })?;
+        }
+        calls.push(Call::Read { page: 0 })?;
+        let outcome = image.live(calls.as_slice())?;
+        if outcome.payloads.iter().any(|byte| *byte != 0) {
+            return Err(Fail::new("other bytes than were recorded"));
+        }
+        Ok(outcome.answers.last().copied().unwrap_or(Ok(9)))
+    }
+
     #[test]
     fn harm_below_the_reach_is_undone(rt: HostRuntime) -> Result<(), Fail> {
-        let recipe = [0x13, 0, 8, 2, 0, 1, 1, 0, 5, 1, 0, 7, 0, 0, 8];
-        let mut image = Image::open(rt.alloc(), &Recipe::read(&recipe)?, Vec::new(rt.alloc()))?;
-        image.renew(4)?;
-        for (page, states) in [
-            [1, 1, 1, 2, 0, 0, 0, 0],
-            [2, 2, 2, 2, 2, 2, 2, 0],
-            [1, 1, 1, 1, 0, 0, 0, 0],
-            [2; 8],
-        ]
-        .iter()
-        .enumerate()
-        {
-            assert_eq!(rt; image.write(page, &[0; 5]), Ok(0));
-            for (j, state) in states.iter().enumerate() {
-                assert_eq!(rt; image.wear(page, 9 * j, *state), Ok(()));
-            }
-        }
-        let mut payload = [9; 5];
-        assert_eq!(rt; image.read(0, &mut payload), Ok(7));
-        assert_eq!(rt; payload, [0; 5]);
-        assert_eq!(rt; image.read(1, &mut payload), Ok(7));
-        let none = Fault::new(Kind::NoCodeword, Layer::Code, 1);
-        assert_eq!(rt; image.read(2, &mut payload), Err(none.on_page(2)));
-        assert_eq!(rt; image.read(3, &mut payload), Err(none.on_page(3)));
+        let heap = rt.alloc();
+        let none = Fault::new(Kind::NoCodeword, Layer::Code, 1).on_page(0);
+        assert_eq!(rt; worn(heap, &[1, 1, 1, 2, 0, 0, 0, 0])?, Ok(7));
+        assert_eq!(rt; worn(heap, &[2, 2, 2, 2, 2, 2, 2, 0])?, Ok(7));
+        assert_eq!(rt; worn(heap, &[1, 1, 1, 1, 0, 0, 0, 0])?, Err(none));
+        assert_eq!(rt; worn(heap, &[2; 8])?, Err(none));
         Ok(())
     }
 
@@ -212,11 +196,18 @@ mod tests {
     #[test]
     fn a_worn_page_is_read(rt: HostRuntime) -> Result<(), Fail> {
         let mut image = image(rt.alloc())?;
-        let mut payload = [0];
-        assert_eq!(rt; image.write(0, &[0xb2]), Ok(0));
-        assert_eq!(rt; image.wear(0, 0, 2), Ok(()));
-        assert_eq!(rt; image.read(0, &mut payload), Ok(1));
-        assert_eq!(rt; payload, [0xb2]);
+        let write = Call::Write {
+            page: 0,
+            payload: &[0xb2],
+        };
+        let blank = Call::Wear {
+            page: 0,
+            cell: 0,
+            state: 2,
+        };
+        let outcome = image.live(&[write, blank, Call::Read { page: 0 }])?;
+        assert!(rt; outcome.answers.as_slice() == [Ok(0), Ok(0), Ok(1)].as_slice());
+        assert!(rt; outcome.payloads.as_slice() == [0, 0, 0xb2].as_slice());
         let shown = image.inspect(0)?;
         let expected = "inspect page 0: harm 1, 1 from the reach 2, 1 of its cells blank
   ?1
@@ -229,9 +220,14 @@ mod tests {
   01
 ";
         assert!(rt; shown.as_str() == expected);
-        assert_eq!(rt; image.wear(0, 0, 1), Ok(()));
+        let turned = Call::Wear {
+            page: 0,
+            cell: 0,
+            state: 1,
+        };
+        let outcome = image.live(&[turned, Call::Read { page: 0 }])?;
         let none = Fault::new(Kind::NoCodeword, Layer::Code, 2).on_page(0);
-        assert_eq!(rt; image.read(0, &mut payload), Err(none));
+        assert!(rt; outcome.answers.as_slice() == [Ok(0), Err(none)].as_slice());
         Ok(())
     }
 }

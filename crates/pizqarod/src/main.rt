@@ -10,6 +10,7 @@ mod image;
 mod picture;
 mod single;
 mod survey;
+mod told;
 mod watch;
 
 use crate::actions::{act_on, run_script};
