@@ -15,32 +15,6 @@ use memories::memory::Memory;
 use piles::pile::Pile;
 use words::fault::Fault;
 
-/// The calls on a memory over any code.
-// A law of its code is at hand only where the code is a type parameter.
-fn live_over<M: Medium, C: Code>(
-    memory: &mut Memory<'_, M, C>,
-    calls: &[Call<'_>],
-    answers: &mut [Answer],
-    payloads: &mut [u8],
-) -> Result<(), Fault>
-    ensures lived { OnOk result (Lives M.Medium C.Code memory.old memory.new calls.now answers.new payloads.old payloads.new) }
-    ensures apart { Joined M.Medium C.Code memory.old → LieApart (C.Code.model memory.old.code) }
-    ensures nearest { Joined M.Medium C.Code memory.old → Nearest (C.Code.model memory.old.code) }
-    ensures corrects { Joined M.Medium C.Code memory.old → (life : LifeOf M.Medium C.Code memory.old memory.new) → CorrectsEach life }
-    ensures comes_back { Joined M.Medium C.Code memory.old → (life : LifeOf M.Medium C.Code memory.old memory.new) → BringsBack (C.Code.model memory.old.code) life }
-    ensures accepted { Joined M.Medium C.Code memory.old → Accepts M.Medium C.Code memory.old (length calls.now) (length answers.old) (length payloads.old) result }
-    ensures joined { Joined M.Medium C.Code memory.old → Joined M.Medium C.Code memory.new }
-    ensures refused { (Joined M.Medium C.Code memory.old → ⊥) → MatchResult result (λ _. ⊥) (Refuses M.Medium C.Code memory.old) }
-    ensures stays { OnErr result ((memory.new.medium.now ≡ memory.old.medium.now) × (answers.new ≡ answers.old) × (payloads.new ≡ payloads.old)) }
-    ensures kept { Kept M.Medium C.Code memory.old memory.new }
-{
-    memory.check_join()?;
-    let bytes = memory.code.message_len() / 8;
-    check_rooms(calls.len(), bytes, answers.len(), payloads.len())?;
-    answer_calls(memory, calls, bytes, answers, payloads);
-    Ok(())
-}
-
 /// Does calls on a memory over a pile, one after another, and gives the answer of each.
 ///
 /// `answers` has a place for each call, and `payloads` as many bytes for each as a page holds, which only a read fills. A memory whose
@@ -62,5 +36,9 @@ pub fn live<M: Medium, H: Chain, A: Code>(
     ensures stays { OnErr result ((memory.new.medium.now ≡ memory.old.medium.now) × (answers.new ≡ answers.old) × (payloads.new ≡ payloads.old)) }
     ensures kept { Kept M.Medium ⟦<Pile<H, A> as Code>⟧ memory.old memory.new }
 {
-    live_over(memory, calls, answers, payloads)
+    memory.check_join()?;
+    let bytes = memory.code.message_len() / 8;
+    check_rooms(calls.len(), bytes, answers.len(), payloads.len())?;
+    answer_calls(memory, calls, bytes, answers, payloads);
+    Ok(())
 }
