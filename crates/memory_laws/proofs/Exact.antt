@@ -42,18 +42,18 @@ module _ (c : CodeModel) (lc : Lawful c) (m : MediumModel) (h : LawfulMedium m) 
       let zero = spare_zero c.message_len u ru.1 o.2 o.4.spare in
       omega (arith, o.4.set, ap (λ x. get_or x o.2 0) (only o.0 u o.1 ru.0), zero)
 
-  read_exactly : (m' : MediumModel) (buffer buffer' : List ℕ) (r : Result ℕ Fault) → payload_refusal m c p buffer ≡ None → Recalled m m' c p buffer buffer' r → Corrects c m p r
+  read_exactly : (m' : MediumModel) (buffer buffer' : List ℕ) (r : Result ℕ Fault) → payload_refusal m c p buffer ≡ None → Recalled m m' c p buffer buffer' r → Corrects c m p (λ u. buffer' ≡ bytes_of (page_bytes c.message_len) u) r
   read_exactly m' buffer buffer' r none w = by r (MatchOption-at_none _ _ none w.1)
     where
-      by : (r : Result ℕ Fault) → results.MatchResult r (λ h'. (u : List ℕ) × Restores m c p u × (buffer' ≡ bytes_of (page_bytes c.message_len) u) × (h' ≡ page_harm m p (c.codeword u))) (λ f. Unrestored m c p f × (buffer' ≡ buffer)) → Corrects c m p r
-      by (Ok h') o = (o.0, o.1, λ v nv. only o.0 v o.1.0 nv, o.3)
+      by : (r : Result ℕ Fault) → results.MatchResult r (λ h'. (u : List ℕ) × Restores m c p u × (buffer' ≡ bytes_of (page_bytes c.message_len) u) × (h' ≡ page_harm m p (c.codeword u))) (λ f. Unrestored m c p f × (buffer' ≡ buffer)) → Corrects c m p (λ u. buffer' ≡ bytes_of (page_bytes c.message_len) u) r
+      by (Ok h') o = (o.0, o.1, λ v nv. only o.0 v o.1.0 nv, o.2, o.3)
       by (Err f) o = λ u ru. not_both u ru f o.0
 
-  patrol_exactly : (m' : MediumModel) (r : Result ℕ Fault) → page_refusal m p ≡ None → Patrolled m m' c p r → Corrects c m p r
+  patrol_exactly : (m' : MediumModel) (r : Result ℕ Fault) → page_refusal m p ≡ None → Patrolled m m' c p r → Corrects c m p (λ u. Changed m m' p (stored (m.page p) (c.codeword u))) r
   patrol_exactly m' r none w = by r (MatchOption-at_none _ _ none w)
     where
-      by : (r : Result ℕ Fault) → results.MatchResult r (λ h'. (u : List ℕ) × Restores m c p u × Changed m m' p (stored (m.page p) (c.codeword u)) × (h' ≡ page_harm m p (c.codeword u))) (λ f. Unrestored m c p f × Unchanged m m') → Corrects c m p r
-      by (Ok h') o = (o.0, o.1, λ v nv. only o.0 v o.1.0 nv, o.3)
+      by : (r : Result ℕ Fault) → results.MatchResult r (λ h'. (u : List ℕ) × Restores m c p u × Changed m m' p (stored (m.page p) (c.codeword u)) × (h' ≡ page_harm m p (c.codeword u))) (λ f. Unrestored m c p f × Unchanged m m') → Corrects c m p (λ u. Changed m m' p (stored (m.page p) (c.codeword u))) r
+      by (Ok h') o = (o.0, o.1, λ v nv. only o.0 v o.1.0 nv, o.2, o.3)
       by (Err f) o = λ u ru. not_both u ru f o.0
 
 pub corrects_each : (c : CodeModel) → Lawful c → {m m' : MediumModel} → LawfulMedium m → Joins m c → (life : Life c m m') → CorrectsEach life

@@ -4,10 +4,10 @@ use Rattle.std.specs.Result as results
 use Rattle.std.specs.List.{AllByRecursion}
 use Rattle.words.specs.declared.fault.Fault.{Fault}
 use Rattle.codes.specs.Model.{CodeModel, Lawful, Near}
-use Rattle.media_laws.specs.Model.{MediumModel, LawfulMedium}
+use Rattle.media_laws.specs.Model.{MediumModel, LawfulMedium, stored, Changed}
 use Rattle.media.specs.Promises.{page_refusal}
 use Rattle.memory_laws.specs.Calls.{Joins, Written, Recalled, Patrolled, Restores, WornPage, word_of, marks_of, page_harm, payload_refusal, recording}
-use Rattle.memory_laws.specs.Payload.{page_bytes}
+use Rattle.memory_laws.specs.Payload.{bytes_of, page_bytes}
 
 -- one call with its answer, between two states of the medium
 pub data Step (c : CodeModel) (m m' : MediumModel) : Type 0 where
@@ -22,20 +22,20 @@ pub data Life (c : CodeModel) (m : MediumModel) : MediumModel → Type 0 where
   goes_on : {m' m'' : MediumModel} → Life c m m' → Step c m' m'' → Life c m m''
 
 -- a page is corrected exactly where some message restores it: to that one, the only one whose codeword is so near, with its harm
-abbrev pub Corrects : CodeModel → MediumModel → ℕ → Result ℕ Fault → Type 0
-Corrects c m p r =
+abbrev pub Corrects : CodeModel → MediumModel → ℕ → (List ℕ → Type 0) → Result ℕ Fault → Type 0
+Corrects c m p Gives r =
     results.MatchResult r
-    (λ h. (u : List ℕ) × Restores m c p u × ((v : List ℕ) → Near c (word_of m p) (marks_of m p) v → v ≡ u) × (h ≡ page_harm m p (c.codeword u)))
+    (λ h. (u : List ℕ) × Restores m c p u × ((v : List ℕ) → Near c (word_of m p) (marks_of m p) v → v ≡ u) × Gives u × (h ≡ page_harm m p (c.codeword u)))
     (λ f. (u : List ℕ) → Restores m c p u → ⊥)
 
--- so does each read and each patrol of a life that is not refused by its page or its buffer
+-- so does each read of a life, which gives the message's bytes, and each patrol, which puts its codeword back, unless its page or its buffer is refused
 abbrev pub CorrectsEach : {c : CodeModel} {m m' : MediumModel} → Life c m m' → Type 0
 CorrectsEach begins = Unit {0}
 CorrectsEach (goes_on life (writes p payload r w)) = CorrectsEach life
 CorrectsEach {c} (goes_on {m' = before} life (reads p buffer buffer' r w)) =
-    (payload_refusal before c p buffer ≡ None → Corrects c before p r) × CorrectsEach life
-CorrectsEach {c} (goes_on {m' = before} life (patrols p r w)) =
-    (page_refusal before p ≡ None → Corrects c before p r) × CorrectsEach life
+    (payload_refusal before c p buffer ≡ None → Corrects c before p (λ u. buffer' ≡ bytes_of (page_bytes c.message_len) u) r) × CorrectsEach life
+CorrectsEach {c} (goes_on {m' = before} {m'' = after} life (patrols p r w)) =
+    (page_refusal before p ≡ None → Corrects c before p (λ u. Changed before after p (stored (before.page p) (c.codeword u))) r) × CorrectsEach life
 CorrectsEach (goes_on life (wears p i s r w)) = CorrectsEach life
 
 module _ (c : CodeModel) {m : MediumModel} (p : ℕ) where
