@@ -3,7 +3,7 @@ ghost use Rattle.std.specs.Prelude.{◌≡◌, length, MatchResult, OnErr, OnOk}
 ghost use Rattle.memory_laws.specs.Lives.{BringsBack, CorrectsEach};
 ghost use Rattle.memories.specs.Promises.{Joined, Kept, Refuses};
 ghost use Rattle.piles.specs.Sound.{LieApart};
-ghost use Rattle.lives.specs.Promises.{Accepts, LifeOf, Lives, Nearest};
+ghost use Rattle.lives.specs.Promises.{Accepts, Lives, Nearest, OfEachLife};
 
 use crate::call::{Answer, Call};
 use crate::calls::answer_calls;
@@ -28,8 +28,8 @@ pub fn live<M: Medium, H: Chain, A: Code>(
     ensures lived { OnOk result (Lives M.Medium ⟦<Pile<H, A> as Code>⟧ memory.old memory.new calls.now answers.new payloads.old payloads.new) }
     ensures apart { Joined M.Medium ⟦<Pile<H, A> as Code>⟧ memory.old → LieApart (⟦<Pile<H, A> as Code>⟧.model memory.old.code) }
     ensures nearest { Joined M.Medium ⟦<Pile<H, A> as Code>⟧ memory.old → Nearest (⟦<Pile<H, A> as Code>⟧.model memory.old.code) }
-    ensures corrects { Joined M.Medium ⟦<Pile<H, A> as Code>⟧ memory.old → (life : LifeOf M.Medium ⟦<Pile<H, A> as Code>⟧ memory.old memory.new) → CorrectsEach life }
-    ensures comes_back { Joined M.Medium ⟦<Pile<H, A> as Code>⟧ memory.old → (life : LifeOf M.Medium ⟦<Pile<H, A> as Code>⟧ memory.old memory.new) → BringsBack (⟦<Pile<H, A> as Code>⟧.model memory.old.code) life }
+    ensures corrects { Joined M.Medium ⟦<Pile<H, A> as Code>⟧ memory.old → OfEachLife M.Medium ⟦<Pile<H, A> as Code>⟧ memory.old memory.new (λ start life. CorrectsEach life) }
+    ensures comes_back { Joined M.Medium ⟦<Pile<H, A> as Code>⟧ memory.old → OfEachLife M.Medium ⟦<Pile<H, A> as Code>⟧ memory.old memory.new (λ start life. BringsBack (⟦<Pile<H, A> as Code>⟧.model memory.old.code) life) }
     ensures accepted { Joined M.Medium ⟦<Pile<H, A> as Code>⟧ memory.old → Accepts M.Medium ⟦<Pile<H, A> as Code>⟧ memory.old (length calls.now) (length answers.old) (length payloads.old) result }
     ensures joined { Joined M.Medium ⟦<Pile<H, A> as Code>⟧ memory.old → Joined M.Medium ⟦<Pile<H, A> as Code>⟧ memory.new }
     ensures refused { (Joined M.Medium ⟦<Pile<H, A> as Code>⟧ memory.old → ⊥) → MatchResult result (λ _. ⊥) (Refuses M.Medium ⟦<Pile<H, A> as Code>⟧ memory.old) }

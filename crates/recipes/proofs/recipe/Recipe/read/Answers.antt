@@ -1,16 +1,15 @@
-use Rattle.std.proofs.Common.{rules}
 use Rattle.recipes.proofs.Uniqueness.{single_meaning}
 use Rattle.recipes.proofs.recipe.Recipe.read.Goals as goal
 
 -- what the bytes describe is lawful
-pub returns-in_err-chain : goal.returns-in_err-chain
-returns-in_err-chain c = record { reads = search rules; single = single_meaning c.args.bytes.now }
+pub returns-in_err-chain-clause-single : goal.returns-in_err-chain-clause-single
+returns-in_err-chain-clause-single c = single_meaning c.args.bytes.now
 
-pub returns-in_err-columns : goal.returns-in_err-columns
-returns-in_err-columns c = record { reads = search rules; single = single_meaning c.args.bytes.now }
+pub returns-in_err-columns-clause-single : goal.returns-in_err-columns-clause-single
+returns-in_err-columns-clause-single c = single_meaning c.args.bytes.now
 
-pub returns-in_err-table : goal.returns-in_err-table
-returns-in_err-table c = record { reads = search rules; single = single_meaning c.args.bytes.now }
+pub returns-in_err-table-clause-single : goal.returns-in_err-table-clause-single
+returns-in_err-table-clause-single c = single_meaning c.args.bytes.now
 
-pub returns : goal.returns
-returns c = record { reads = search rules; single = single_meaning c.args.bytes.now }
+pub returns-clause-single : goal.returns-clause-single
+returns-clause-single c = single_meaning c.args.bytes.now
