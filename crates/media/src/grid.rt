@@ -79,6 +79,12 @@ impl Medium for Grid<'_> {
 
     ghost lender = { λ g. g.bytes.ghost_name };
 
+    ghost held = { λ g. g.bytes.now };
+
+    ghost puts = { λ breadth before after page cells. after ≡ bytes_put before breadth page cells };
+
+    ghost wears = { λ breadth before after page cell state. after ≡ slice_set before (page * breadth + cell) state };
+
     ghost lawful = { λ g fits. grid_lawful g.bytes.now g.pages g.breadth fits };
 
     fn check(&self) -> Result<(), Fault>
@@ -102,12 +108,7 @@ impl Medium for Grid<'_> {
         self.breadth
     }
 
-    // A clause that an impl adds to a method is written beside the trait's own, which stand here again for the sake of `bytes`.
-    fn fetch(&mut self, page: usize, cells: &mut [u8], marks: &mut [u8]) -> Result<(), Fault>
-        ensures called { Called (GridSound self.old) (GridSound self.new) (GridRefuses self.old) (Fetched (grid_of self.old) (grid_of self.new) page cells.old marks.old cells.new marks.new result) (Unchanged (grid_of self.old) (grid_of self.new) × (cells.new ≡ cells.old) × (marks.new ≡ marks.old)) result }
-        ensures lender { self.new.bytes.ghost_name ≡ self.old.bytes.ghost_name }
-        ensures bytes { self.new.bytes.now ≡ self.old.bytes.now }
-    {
+    fn fetch(&mut self, page: usize, cells: &mut [u8], marks: &mut [u8]) -> Result<(), Fault> {
         self.check()?;
         check_page(page, self.pages)?;
         check_fetch(cells, marks, self.breadth)?;
@@ -115,11 +116,7 @@ impl Medium for Grid<'_> {
         Ok(())
     }
 
-    fn put(&mut self, page: usize, cells: &[u8]) -> Result<(), Fault>
-        ensures called { Called (GridSound self.old) (GridSound self.new) (GridRefuses self.old) (Put (grid_of self.old) (grid_of self.new) page cells.now result) (Unchanged (grid_of self.old) (grid_of self.new)) result }
-        ensures lender { self.new.bytes.ghost_name ≡ self.old.bytes.ghost_name }
-        ensures bytes { MatchResult result (λ _. self.new.bytes.now ≡ bytes_put self.old.bytes.now self.old.breadth page cells.now) (λ _. self.new.bytes.now ≡ self.old.bytes.now) }
-    {
+    fn put(&mut self, page: usize, cells: &[u8]) -> Result<(), Fault> {
         self.check()?;
         check_page(page, self.pages)?;
         check_put(cells, self.breadth)?;
@@ -129,11 +126,7 @@ impl Medium for Grid<'_> {
         Ok(())
     }
 
-    fn wear(&mut self, page: usize, cell: usize, state: u8) -> Result<(), Fault>
-        ensures called { Called (GridSound self.old) (GridSound self.new) (GridRefuses self.old) (Worn (grid_of self.old) (grid_of self.new) page cell state result) (Unchanged (grid_of self.old) (grid_of self.new)) result }
-        ensures lender { self.new.bytes.ghost_name ≡ self.old.bytes.ghost_name }
-        ensures bytes { MatchResult result (λ _. self.new.bytes.now ≡ slice_set self.old.bytes.now (page * self.old.breadth + cell) state) (λ _. self.new.bytes.now ≡ self.old.bytes.now) }
-    {
+    fn wear(&mut self, page: usize, cell: usize, state: u8) -> Result<(), Fault> {
         self.check()?;
         check_page(page, self.pages)?;
         check_cell(cell, self.breadth, state)?;

@@ -175,6 +175,12 @@ impl Medium for Packed<'_> {
 
     ghost lender = { λ k. k.bytes.ghost_name };
 
+    ghost held = { λ k. k.bytes.now };
+
+    ghost puts = { λ breadth before after page cells. BitsPut before after (first_value breadth page) (first_mark breadth page) cells breadth };
+
+    ghost wears = { λ breadth before after page cell state. BitsWorn before after (first_value breadth page + cell) (first_mark breadth page + cell) state };
+
     ghost lawful = { λ k fits. packed_lawful k.bytes.now k.pages k.breadth fits };
 
     fn check(&self) -> Result<(), Fault> {
@@ -194,12 +200,7 @@ impl Medium for Packed<'_> {
         self.breadth
     }
 
-    // The trait's own clauses stand here again for the sake of `bytes`, as in the grid.
-    fn fetch(&mut self, page: usize, cells: &mut [u8], marks: &mut [u8]) -> Result<(), Fault>
-        ensures called { Called (PackedSound self.old) (PackedSound self.new) (PackedRefuses self.old) (Fetched (packed_of self.old) (packed_of self.new) page cells.old marks.old cells.new marks.new result) (Unchanged (packed_of self.old) (packed_of self.new) × (cells.new ≡ cells.old) × (marks.new ≡ marks.old)) result }
-        ensures lender { self.new.bytes.ghost_name ≡ self.old.bytes.ghost_name }
-        ensures bytes { self.new.bytes.now ≡ self.old.bytes.now }
-    {
+    fn fetch(&mut self, page: usize, cells: &mut [u8], marks: &mut [u8]) -> Result<(), Fault> {
         self.check()?;
         check_page(page, self.pages)?;
         check_fetch(cells, marks, self.breadth)?;
@@ -207,11 +208,7 @@ impl Medium for Packed<'_> {
         Ok(())
     }
 
-    fn put(&mut self, page: usize, cells: &[u8]) -> Result<(), Fault>
-        ensures called { Called (PackedSound self.old) (PackedSound self.new) (PackedRefuses self.old) (Put (packed_of self.old) (packed_of self.new) page cells.now result) (Unchanged (packed_of self.old) (packed_of self.new)) result }
-        ensures lender { self.new.bytes.ghost_name ≡ self.old.bytes.ghost_name }
-        ensures bytes { MatchResult result (λ _. BitsPut self.old.bytes.now self.new.bytes.now (first_value self.old.breadth page) (first_mark self.old.breadth page) cells.now self.old.breadth) (λ _. self.new.bytes.now ≡ self.old.bytes.now) }
-    {
+    fn put(&mut self, page: usize, cells: &[u8]) -> Result<(), Fault> {
         self.check()?;
         check_page(page, self.pages)?;
         check_put(cells, self.breadth)?;
@@ -220,11 +217,7 @@ impl Medium for Packed<'_> {
         Ok(())
     }
 
-    fn wear(&mut self, page: usize, cell: usize, state: u8) -> Result<(), Fault>
-        ensures called { Called (PackedSound self.old) (PackedSound self.new) (PackedRefuses self.old) (Worn (packed_of self.old) (packed_of self.new) page cell state result) (Unchanged (packed_of self.old) (packed_of self.new)) result }
-        ensures lender { self.new.bytes.ghost_name ≡ self.old.bytes.ghost_name }
-        ensures bytes { MatchResult result (λ _. BitsWorn self.old.bytes.now self.new.bytes.now (first_value self.old.breadth page + cell) (first_mark self.old.breadth page + cell) state) (λ _. self.new.bytes.now ≡ self.old.bytes.now) }
-    {
+    fn wear(&mut self, page: usize, cell: usize, state: u8) -> Result<(), Fault> {
         self.check()?;
         check_page(page, self.pages)?;
         check_cell(cell, self.breadth, state)?;

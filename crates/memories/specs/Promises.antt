@@ -1,11 +1,11 @@
 -- What the calls of a memory promise, whatever its medium and its code. Assumes nothing.
-use Rattle.std.specs.Prelude.{◌≡◌, true, is_err, Result, MatchResult}
+use Rattle.std.specs.Prelude.{◌≡◌, ℕ, true, List, is_err, Result, MatchResult}
 use Rattle.words.specs.declared.fault.Fault.{Fault}
 use Rattle.codes.specs.declared.code.Code.{Ghosts as CodeGhosts}
 use Rattle.codes.specs.Model.{CodeModel}
 use Rattle.media.specs.declared.medium.Medium.{Ghosts as MediumGhosts}
 use Rattle.media_laws.specs.Model.{MediumModel}
-use Rattle.memory_laws.specs.Calls.{Joins, Unjoined}
+use Rattle.memory_laws.specs.Calls.{Joins, Restores, Unjoined}
 use Rattle.memories.specs.declared.memory.Memory.{Memory}
 
 module _ {M C : Type 0} (media : MediumGhosts M) (codes : CodeGhosts C) where
@@ -25,6 +25,24 @@ module _ {M C : Type 0} (media : MediumGhosts M) (codes : CodeGhosts C) where
     pub lender : media.lender m'.medium.now ≡ media.lender m.medium.now
     pub medium : m'.medium.ghost_name ≡ m.medium.ghost_name
     pub code : m'.code ≡ m.code
+
+  -- what the medium holds, byte for byte, is the same
+  abbrev pub Holds : Memory M C → Memory M C → Type 0
+  Holds m m' = media.held m'.medium.now ≡ media.held m.medium.now
+
+  -- and this is what it holds once cells are put to a page, and once one cell of it is worn to a state
+  abbrev pub Puts : Memory M C → Memory M C → ℕ → List ℕ → Type 0
+  Puts m m' page cells =
+      media.puts (media.model m.medium.now).breadth (media.held m.medium.now) (media.held m'.medium.now) page cells
+
+  abbrev pub Wears : Memory M C → Memory M C → ℕ → ℕ → ℕ → Type 0
+  Wears m m' page cell state =
+      media.wears (media.model m.medium.now).breadth (media.held m.medium.now) (media.held m'.medium.now) page cell state
+
+  -- the message that a page is corrected to, whose codeword is put back
+  abbrev pub PutsBack : Memory M C → Memory M C → ℕ → Type 0
+  PutsBack m m' page =
+      (u : List ℕ) × Restores (media.model m.medium.now) (codes.model m.code) page u × Puts m m' page ((codes.model m.code).codeword u)
 
   -- what is asked of a memory whose parts are joined: its medium stays sound
   abbrev pub Done : Memory M C → Memory M C → (MediumModel → MediumModel → CodeModel → Type 0) → Type 0

@@ -1,7 +1,8 @@
 // Patrols of a page of a medium that the code fits.
 // The room to work in is arrays, cut to length, since libraries use no heap.
+ghost use Rattle.std.specs.Prelude.{MatchResult};
 ghost use Rattle.memory_laws.specs.Calls.{Patrolled, paged};
-ghost use Rattle.memories.specs.Promises.{Done, Joined, Kept};
+ghost use Rattle.memories.specs.Promises.{Done, Holds, Joined, Kept, PutsBack};
 
 use crate::memory::Memory;
 use codes::code::Code;
@@ -16,6 +17,7 @@ impl<M: Medium, C: Code> Memory<'_, M, C> {
         requires { Joined M.Medium C.Code self.old }
         ensures done { Done M.Medium C.Code self.old self.new (λ m m' c. Patrolled m m' c page (paged result page)) }
         ensures kept { Kept M.Medium C.Code self.old self.new }
+        ensures bytes { MatchResult result (λ _. PutsBack M.Medium C.Code self.old self.new page) (λ _. Holds M.Medium C.Code self.old self.new) }
     {
         let bits = self.code.message_len();
         let cells = self.code.len();

@@ -1,7 +1,7 @@
 // Reads of a page of a medium that the code fits.
 // The room to work in is arrays, cut to length, since libraries use no heap.
 ghost use Rattle.memory_laws.specs.Calls.{Recalled, paged};
-ghost use Rattle.memories.specs.Promises.{Done, Joined, Kept};
+ghost use Rattle.memories.specs.Promises.{Done, Holds, Joined, Kept};
 
 use crate::bits::gather;
 use crate::checks::check_call;
@@ -17,6 +17,7 @@ impl<M: Medium, C: Code> Memory<'_, M, C> {
         requires { Joined M.Medium C.Code self.old }
         ensures done { Done M.Medium C.Code self.old self.new (λ m m' c. Recalled m m' c page payload.old payload.new (paged result page)) }
         ensures kept { Kept M.Medium C.Code self.old self.new }
+        ensures bytes { Holds M.Medium C.Code self.old self.new }
     {
         let bits = self.code.message_len();
         let cells = self.code.len();

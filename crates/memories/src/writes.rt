@@ -1,7 +1,8 @@
 // Writes to a page of a medium that the code fits.
 // The room to work in is arrays, cut to length, since libraries use no heap.
-ghost use Rattle.memory_laws.specs.Calls.{Written, paged};
-ghost use Rattle.memories.specs.Promises.{Done, Joined, Kept};
+ghost use Rattle.std.specs.Prelude.{MatchResult};
+ghost use Rattle.memory_laws.specs.Calls.{Written, paged, recording};
+ghost use Rattle.memories.specs.Promises.{Done, Holds, Joined, Kept, Puts};
 
 use crate::bits::{count_marks, spread};
 use crate::checks::check_call;
@@ -17,6 +18,7 @@ impl<M: Medium, C: Code> Memory<'_, M, C> {
         requires { Joined M.Medium C.Code self.old }
         ensures done { Done M.Medium C.Code self.old self.new (λ m m' c. Written m m' c page payload.now (paged result page)) }
         ensures kept { Kept M.Medium C.Code self.old self.new }
+        ensures bytes { MatchResult result (λ _. Puts M.Medium C.Code self.old self.new page (recording (C.Code.model self.old.code) payload.now)) (λ _. Holds M.Medium C.Code self.old self.new) }
     {
         let bits = self.code.message_len();
         let cells = self.code.len();
