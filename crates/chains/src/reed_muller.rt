@@ -65,15 +65,15 @@ impl ReedMuller {
         }
     }
 
-    // The word with the bits at the first `count` places taken off, or laid on, which is the same.
-    fn take_off(&self, bits: u16, count: usize, word: u16) -> u16
-        requires { (count ≤ 2 ^ self.now.r) × (word < 2 ^ 2 ^ self.now.r) }
-        ensures is { bits_of (2 ^ self.now.r) result ≡ laid (columns self.now.r) (bits_of count bits) (bits_of (2 ^ self.now.r) word) }
+    // The word with the bits at the first places taken off, or laid on, which is the same.
+    fn take_off(&self, row: Joined, word: u16) -> u16
+        requires { (row.count ≤ 2 ^ self.now.r) × (word < 2 ^ 2 ^ self.now.r) }
+        ensures is { bits_of (2 ^ self.now.r) result ≡ laid (columns self.now.r) (bits_of row.count row.bits) (bits_of (2 ^ self.now.r) word) }
         ensures small { result < 2 ^ 2 ^ self.now.r }
     {
         let mut rest = word;
-        for t in 0..count {
-            rest = self.turn(t, u16::from(bit_at(bits, count - 1 - t)), rest);
+        for t in 0..row.count {
+            rest = self.turn(t, u16::from(bit_at(row.bits, row.count - 1 - t)), rest);
         }
         rest
     }
@@ -127,7 +127,7 @@ impl ReedMuller {
     {
         let decided = self.join(labels);
         let blank = spell(reading.marks);
-        let begun = self.take_off(decided.bits, decided.count, spell(reading.cells));
+        let begun = self.take_off(decided, spell(reading.cells));
         let settled = self.settle(decided.count, begun, blank);
         Found {
             count: decided.count,
@@ -249,7 +249,7 @@ impl Chain for ReedMuller {
     fn word_of(&self, labels: &[u8], cells: &mut [u8]) -> Result<(), Fault> {
         self.frame().check_row(labels, cells)?;
         let row = self.join(labels);
-        write_bits(self.take_off(row.bits, row.count, 0), cells);
+        write_bits(self.take_off(row, 0), cells);
         Ok(())
     }
 

@@ -45,6 +45,7 @@ impl Polynomial {
         1 << self.width
     }
 
+    // That operands are elements stands in each contract: they are numbers handed in, others at each call, and no value holds them.
     /// How often 1 is doubled to get `a`.
     fn log(&self, a: u8) -> usize
         requires { a < 2 ^ self.now.width }

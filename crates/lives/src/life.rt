@@ -19,6 +19,7 @@ use words::fault::Fault;
 ///
 /// `answers` has a place for each call, and `payloads` as many bytes for each as a page holds, which only a read fills. A memory whose
 /// parts are not joined is refused as by each of its calls; then answers and payloads of another length are, in this order, with 10.
+// Answers and payloads are lent beside the calls, place by place, since the library has no heap to put them in.
 pub fn live<M: Medium, H: Chain, A: Code>(
     memory: &mut Memory<'_, M, Pile<H, A>>,
     calls: &[Call<'_>],

@@ -62,6 +62,7 @@ impl<H: Chain, A: Code> Search<'_, H, A> {
         ensures { MatchResult result (λ _. EstimatedColumns (H.Chain.model self.now.chain.now) self.now.columns chosen words.now self.now.word.now self.now.marks.now estimates.new) (λ _. ⊥) }
     {
         let breadth = self.chain.breadth();
+        // By index into word and marks: the column's number is needed too, and a zip with two `chunks` would be no plainer.
         for (j, estimate) in estimates.iter_mut().enumerate() {
             let start = breadth * j;
             let end = start + breadth;

@@ -1,9 +1,10 @@
 // Writing the codeword of a message, and recognizing one.
-// Work space is arrays of 256, the most symbols that a word has, since the library has no heap.
+// Work space is arrays of the most symbols that a word has, since the library has no heap.
 ghost use Rattle.std.specs.Prelude.{◌≡◌, ◌≤◌, length};
 ghost use Rattle.reed_solomon_laws.specs.Words.{reed_solomon};
 ghost use Rattle.reed_solomon.specs.Finding.{MessageOfKind, Recognized};
 
+use crate::elements::MOST_SYMBOLS;
 use crate::interpolation::through;
 use fields::field::Field;
 use words::fault::{Fault, Kind, Layer};
@@ -13,8 +14,8 @@ pub(crate) fn write_codeword<F: Field>(field: &F, message: &[u8], word: &mut [u8
     requires { (F.sound field.now) × ((MessageOfKind (F.model field.now) (length word.old) message.now) × (length word.old ≤ 256)) }
     ensures { word.new ≡ (reed_solomon (F.model field.now) (length word.old) (length message.now)).codeword message.now }
 {
-    let skip = [0; 256];
-    let mut room = [0; 256];
+    let skip = [0; MOST_SYMBOLS];
+    let mut room = [0; MOST_SYMBOLS];
     let product = &mut room[..word.len()];
     through(field, message.len(), message, &skip, word, product);
 }
@@ -24,7 +25,7 @@ pub(crate) fn recognize<F: Field>(field: &F, message: &[u8], word: &[u8]) -> Res
     requires { (F.sound field.now) × ((MessageOfKind (F.model field.now) (length word.now) message.now) × (length word.now ≤ 256)) }
     ensures { Recognized (F.model field.now) message.now word.now result }
 {
-    let mut room = [0; 256];
+    let mut room = [0; MOST_SYMBOLS];
     let codeword = &mut room[..word.len()];
     write_codeword(field, message, codeword);
     if *word != *codeword {

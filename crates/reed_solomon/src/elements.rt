@@ -8,6 +8,9 @@ ghost use Rattle.field_laws.specs.Fields.{size as field_size};
 
 use fields::field::Field;
 
+/// The most symbols that a word has: one for each element of the largest field.
+pub(crate) const MOST_SYMBOLS: usize = 256;
+
 pub(crate) fn add<F: Field>(field: &F, a: u8, b: u8) -> u8
     requires { (F.sound field.now) × ((a < field_size (F.model field.now)) × (b < field_size (F.model field.now))) }
     ensures { (result ≡ (F.model field.now).sum a b) × (result < field_size (F.model field.now)) }

@@ -42,6 +42,7 @@ pub(crate) fn through<F: Field>(
     v.fill(0);
     p.fill(1);
     let mut taken = 0;
+    // By place, which is itself the element x: a zip with `skip` would count it as well.
     for (x, symbol) in symbols.iter().enumerate() {
         if is_chosen(skip[x], taken, wanted) {
             take_place(field, x, *symbol, v, p);

@@ -1,13 +1,13 @@
 // The key equation by values: polynomials q and e with q = t·e at every readable place outside the first choice, where t is
 // the error there over the product of the choice.
 //
-// Work space is arrays of 256, the most symbols that a word has, since the library has no heap.
+// Work space is arrays of the most symbols that a word has, since the library has no heap.
 ghost use Rattle.std.specs.Prelude.{◌≡◌, ◌<◌, ◌≤◌, length, if◌then◌else◌, ◌≢◌};
 ghost use Rattle.field_laws.specs.Fields.{size as field_size};
 ghost use Rattle.reed_solomon_laws.proofs.Arrays.{Eliminated, Located, miss as missed};
 ghost use Rattle.reed_solomon.specs.Passes.{Over, HasElement, Beside, Follows, combination, with_root, Pairs, Advanced, Readings, Lengths, Skips, Rightful};
 
-use crate::elements::{add, invert, multiply};
+use crate::elements::{MOST_SYMBOLS, add, invert, multiply};
 use crate::passes::{add_root, combine};
 use fields::field::Field;
 
@@ -78,7 +78,8 @@ fn eliminate<F: Field>(
 }
 
 /// One readable place x more, with the quotient t there. The pivot is a pair that misses the equation at x: of two such the one with
-/// the smaller bound, of equal bounds the first. Answers whether it is the first.
+/// the smaller bound, of equal bounds the first. Answers whether it is the first: one word for a pair that the caller has, where a
+/// reference back would be no plainer.
 fn advance<F: Field>(field: &F, x: usize, t: u8, first: &mut Pair, second: &mut Pair) -> bool
     requires { (F.sound field.now) × (((x < length first.old.q.now) × (length first.old.q.now ≤ field_size (F.model field.now))) × ((t < field_size (F.model field.now)) × (Pairs (F.model field.now) (length first.old.q.now) first.old.q.now first.old.e.now second.old.q.now second.old.e.now))) }
     ensures advanced { Advanced (F.model field.now) (length first.old.q.now) x t (first.old.bound, second.old.bound) first.old.q.now first.old.e.now second.old.q.now second.old.e.now first.new.q.now first.new.e.now second.new.q.now second.new.e.now result }
@@ -130,6 +131,7 @@ impl<F: Field> KeyEquation<'_, F> {
         second.q.fill(0);
         second.e.fill(1);
         second.bound = 0;
+        // By place, which is itself the element x: a zip of four rows would count it as well.
         for (x, y) in self.word.iter().enumerate() {
             if self.marks[x] == 0 && self.p[x] != 0 {
                 let t = quotient(self.field, *y, self.g[x], self.p[x]);
@@ -149,10 +151,10 @@ impl<F: Field> KeyEquation<'_, F> {
         ensures { Rightful (F.model self.now.field.now) self.now.word.now self.now.marks.now self.now.g.now self.now.p.now skip.new }
     {
         let n = self.word.len();
-        let mut q0 = [0; 256];
-        let mut e0 = [0; 256];
-        let mut q1 = [0; 256];
-        let mut e1 = [0; 256];
+        let mut q0 = [0; MOST_SYMBOLS];
+        let mut e0 = [0; MOST_SYMBOLS];
+        let mut q1 = [0; MOST_SYMBOLS];
+        let mut e1 = [0; MOST_SYMBOLS];
         let mut first = Pair {
             q: &mut q0[..n],
             e: &mut e0[..n],

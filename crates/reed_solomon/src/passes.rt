@@ -24,6 +24,7 @@ pub(crate) fn take_root<F: Field>(field: &F, c: u8, x: u8, v: &mut [u8], p: &mut
     requires { (F.sound field.now) × ((c < field_size (F.model field.now)) × ((x < field_size (F.model field.now)) × ((length p.old ≤ field_size (F.model field.now)) × (Beside (F.model field.now) p.old v.old)))) }
     ensures { Follows v.new (length p.old) (plus_multiple (F.model field.now) c p.old v.old) × Follows p.new (length p.old) (with_root (F.model field.now) x p.old) }
 {
+    // By index into v: nothing is known of what a zip of `iter_mut` wrote.
     for (j, y) in p.iter_mut().enumerate() {
         let factor = add(field, j as u8, x);
         let (value, product) = step(field, c, factor, v[j], *y);

@@ -1,8 +1,9 @@
 // The search for the codeword that lies near to a word.
-// Work space is arrays of 256, the most symbols that a word has, since the library has no heap.
+// Work space is arrays of the most symbols that a word has, since the library has no heap.
 ghost use Rattle.std.specs.Prelude.{◌≡◌, ◌+◌, ◌-◌, ◌≤◌, length};
 ghost use Rattle.reed_solomon.specs.Finding.{Received, Guessed, Found, Replaced};
 
+use crate::elements::MOST_SYMBOLS;
 use crate::interpolation::through;
 use crate::key_equation::KeyEquation;
 use codes::checks::check_near;
@@ -52,12 +53,12 @@ impl<F: Field> Damaged<'_, F> {
         ensures { Found (F.model self.now.field.now) self.now.k self.now.word.now self.now.marks.now found.new result }
     {
         let n = self.word.len();
-        let mut room = [0; 256];
+        let mut room = [0; MOST_SYMBOLS];
         let product = &mut room[..n];
         if let Ok(near) = self.guess(self.marks, found, product) {
             return Ok(near);
         }
-        let mut places = [0; 256];
+        let mut places = [0; MOST_SYMBOLS];
         let skip = &mut places[..n];
         let equation = KeyEquation {
             field: self.field,
@@ -81,7 +82,7 @@ pub(crate) fn replace<F: Field>(
     requires { (F.sound field.now) × ((Received (F.model field.now) k word.old marks.now) × (length word.old ≤ 256)) }
     ensures { Replaced (F.model field.now) k word.old marks.now word.new result }
 {
-    let mut room = [0; 256];
+    let mut room = [0; MOST_SYMBOLS];
     let found = &mut room[..word.len()];
     let damaged = Damaged {
         field,

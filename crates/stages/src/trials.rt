@@ -41,11 +41,14 @@ impl Columns<'_> {
         requires marks { length marks.old ≡ length self.now.estimates.now }
         ensures { Found (C.Code.model code.now) self.now.inner self.now.estimates.now candidate.new result }
     {
-        for threshold in 1..=usize::from(self.inner) {
-            if let Some(score) = self.trial(code, threshold, candidate, marks) {
-                return Some(score);
+        // By a break out of a label: the first candidate that passes is the choice.
+        'trials: {
+            for threshold in 1..=usize::from(self.inner) {
+                if let Some(score) = self.trial(code, threshold, candidate, marks) {
+                    break 'trials Some(score);
+                }
             }
+            None
         }
-        None
     }
 }
