@@ -1,9 +1,10 @@
--- Answers fit in a signed word. Assumes nothing.
-use Rattle.std.proofs.Common.{◌≡◌, ℕ, ◌*◌, ◌<◌, ◌≤◌, Bool, true, false, cond, ◌==◌, List, [], ◌∷◌, map, length, Some, None, Ok, Err, IfOk, MatchOption, MatchResult, Option, Result, refl, subst, sym, ◌∙◌, ◌^◌, arith, nat_eq}
+-- Answers fit in a signed word, and a refused read fills nothing. Assumes nothing.
+use Rattle.std.proofs.Common.{◌≡◌, ℕ, ◌*◌, ◌<◌, ◌≤◌, Bool, true, false, cond, ◌==◌, List, [], ◌∷◌, length, Some, None, Ok, Err, IfErr, IfOk, MatchOption, MatchResult, Option, Result, refl, subst, sym, ◌∙◌, ◌^◌, arith, nat_eq}
 use Rattle.std.proofs.lemmas.List.{length-map}
 use Rattle.std.proofs.lemmas.List.FromFn.{length-map-range_with_len}
 use Rattle.std.proofs.lemmas.List.Sums.{count_by-le-length}
-use native.Mathlib.Decide.{dec_lt}
+use mathlib.Core.List.{List-discrete}
+use native.Mathlib.Decide.{dec_lt, ℕ_discrete}
 use Rattle.words.specs.declared.fault.Fault.{Fault}
 use Rattle.words.specs.Harm.{harm, harm_at}
 use Rattle.words.specs.Faults.{on_page}
@@ -76,3 +77,21 @@ module _ (bytes bytes' : List ℕ) (pages pages' cells cells' : ℕ) (c : CodeMo
       by None (Ok h) e o = subst Small (sym e) (subst (λ n. n < 2 ^ 31) (sym o.3) (harm_small fits o.0))
       by None (Err f) e o = subst Small (sym e) tt
       by (Some f) r' e o = subst Small (sym (e ∙ o.0)) tt
+
+-- a buffer that a refused call leaves wherever its parts are joined, and wherever they are not, it leaves
+pub kept_where_refused : (Joined : Type 0) (old new : List ℕ) (r : Result ℕ Fault) → (Joined → IfErr r (λ _. new ≡ old)) → ((Joined → ⊥) → new ≡ old) → IfErr r (λ _. new ≡ old)
+kept_where_refused Joined old new (Ok n) joined unjoined = tt
+kept_where_refused Joined old new (Err f) joined unjoined = by (List-discrete ℕ_discrete new old)
+  where
+    by : Dec (new ≡ old) → new ≡ old
+    by (yes e) = e
+    by (no not) = unjoined (λ j. not (joined j))
+
+pub recalled_kept : (before after : MediumModel) (c : CodeModel) (p : ℕ) (payload payload' : List ℕ) (r : Result ℕ Fault) → Recalled before after c p payload payload' r → IfErr r (λ _. payload' ≡ payload)
+recalled_kept before after c p payload payload' r w = by (payload_refusal before c p payload) r w.1
+  where
+    by : (o : Option Fault) (r' : Result ℕ Fault) → MatchOption o (MatchResult r' (λ h. (u : List ℕ) × Restores before c p u × (payload' ≡ bytes_of (page_bytes c.message_len) u) × (h ≡ page_harm before p (c.codeword u))) (λ f. Unrestored before c p f × (payload' ≡ payload))) (λ f. (r' ≡ Err (on_page f p)) × (payload' ≡ payload)) → IfErr r' (λ _. payload' ≡ payload)
+    by None (Ok h) o = tt
+    by None (Err f) o = o.1
+    by (Some g) (Ok h) o = tt
+    by (Some g) (Err f) o = o.1

@@ -1,5 +1,5 @@
 -- The code of a recipe's pages is lawful. Assumes nothing.
-use Rattle.std.proofs.Common.{◌≡◌, map, take, ap₂, subst}
+use Rattle.std.proofs.Common.{◌≡◌, map, take, ap₂}
 use Rattle.field_laws.specs.Polynomials.{polynomial}
 use Rattle.field_laws.specs.Extensions.{extension}
 use Rattle.field_laws.proofs.PolynomialLaws.{polynomial_laws}

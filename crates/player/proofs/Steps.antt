@@ -1,5 +1,5 @@
 -- A call on packed pages is a step of a life, and its refusals are those of the memory. Assumes nothing.
-use Rattle.std.proofs.Common.{◌≡◌, ℕ, ◌≤◌, List, length, None, Ok, Err, Result, MatchOption, MatchResult, refl, sym, ap, subst, inl, inr, arith}
+use Rattle.std.proofs.Common.{◌≡◌, ℕ, ◌≤◌, List, length, None, Ok, Err, Result, MatchOption, MatchResult, refl, sym, subst, inl, inr, arith}
 use Rattle.words.specs.declared.fault.Fault.{Fault}
 use Rattle.words.specs.declared.fault.Kind.TheVariants.{UnfitMedium, UnfitMemory}
 use Rattle.words.specs.declared.fault.Layer.TheVariants.{Medium, Memory}
@@ -84,16 +84,19 @@ module _ (t : Table) (p : Pile RecipeChain StageCode) (is : PileOf t p) (pages :
     module _ (recipe : List ℕ) (describes : Describes recipe t) (none : recipe_refusal recipe ≡ None) (Asked : MediumModel → MediumModel → CodeModel → Type 0) (step : (m m' : MediumModel) (c : CodeModel) → Asked m m' c → Step c m m') where
       called_here : (pages' cells' : ℕ) → Does before after r Sound CodeRefuses pages' (page_cells t) cells' Asked → Called recipe pages before after r (λ u. (does : Asked (pages_in u pages before) (pages_in u pages after) (page_code u)) × GoesOn u pages before after (step _ _ _ does))
       called_here pages' cells' joined =
-          subst (λ o. MatchOption o ((u : Table) × Describes recipe u × Under recipe pages before after r u ((does : Asked (pages_in u pages before) (pages_in u pages after) (page_code u)) × GoesOn u pages before after (step _ _ _ does))) (λ f. r ≡ Err f)) (sym none)
-          (t, describes, record {
-            done = λ fit some.
-                let j = joins before some in
-                let got = settled (pile_model p) (model_lawful t p is) before after pages pages' (page_cells t) cells' Asked step fit j (joined (fit, sound, j)) in
-                let does = subst (Asked (pages_in t pages before) (pages_in t pages after)) (is_page_code t p is) got.1 in
-                (got.0, (does, goes_on before after some (step _ _ _ does)));
-            unfit = unfit;
-            no_byte = no_byte;
-          })
+          subst (λ o. MatchOption o ((u : Table) × Describes recipe u × Under recipe pages before after r u ((does : Asked (pages_in u pages before) (pages_in u pages after) (page_code u)) × GoesOn u pages before after (step _ _ _ does))) (λ f. r ≡ Err f)) (sym none) (
+            t,
+            describes,
+            record {
+              done = λ fit some.
+                  let j = joins before some in
+                  let got = settled (pile_model p) (model_lawful t p is) before after pages pages' (page_cells t) cells' Asked step fit j (joined (fit, sound, j)) in
+                  let does = subst (Asked (pages_in t pages before) (pages_in t pages after)) (is_page_code t p is) got.1 in
+                  (got.0, (does, goes_on before after some (step _ _ _ does)));
+              unfit = unfit;
+              no_byte = no_byte;
+            },
+          )
 
   pub called : (before after : List ℕ) (r : Result ℕ Fault) (Sound : Type 0) (sound : Sound) (CodeRefuses : Fault → Type 0) (cells : ℕ) → cells ≡ page_cells t → Refuses before after r Sound CodeRefuses cells → (recipe : List ℕ) → Describes recipe t → recipe_refusal recipe ≡ None → (Asked : MediumModel → MediumModel → CodeModel → Type 0) (step : (m m' : MediumModel) (c : CodeModel) → Asked m m' c → Step c m m') (pages' cells' : ℕ) → Does before after r Sound CodeRefuses pages' cells cells' Asked → Called recipe pages before after r (λ u. (does : Asked (pages_in u pages before) (pages_in u pages after) (page_code u)) × GoesOn u pages before after (step _ _ _ does))
   called before after r Sound sound CodeRefuses cells e refuses recipe describes none Asked step pages' cells' does =

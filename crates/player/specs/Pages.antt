@@ -15,7 +15,7 @@ use Rattle.recipe_piles.specs.Made.{PileOf}
 use Rattle.player.specs.declared.layout.Layout.{Layout}
 use Rattle.media_laws.specs.Model.{MediumModel}
 use Rattle.media_laws.specs.Packed.{BitsPut, PackedFits, first_mark, first_value, packed}
-use Rattle.memory_laws.specs.Calls.{Patrolled, Recalled, Restores, Written, recording}
+use Rattle.memory_laws.specs.Calls.{Patrolled, Recalled, Restores, Written}
 use Rattle.memory_laws.specs.Lives.{BringsBack, Life, Step}
 use Rattle.memory_laws.specs.Payload.{page_bytes}
 
