@@ -1,5 +1,5 @@
 -- What the calls' contracts leave of an answer, where an example gives one. Assumes nothing.
-use Rattle.std.proofs.Common.{◌≡◌, ℕ, List, [], ◌∷◌, length, replicate, None, Some, Ok, Err, Option, Result, refl, sym, ap, ◌∙◌, subst, lit≤}
+use Rattle.std.proofs.Common.{◌≡◌, ℕ, List, [], ◌∷◌, length, replicate, None, Some, Ok, Err, Option, Result, refl, sym, ap, ◌∙◌, subst, subst₂, lit≤}
 use Rattle.std.specs.Result as results
 use Rattle.std.proofs.lemmas.Option.{MatchOption-at_none}
 use Rattle.words.specs.declared.fault.Fault.{Fault}
@@ -39,44 +39,31 @@ module _ (c : CodeModel) (lawful : Lawful c) (word marks : List ℕ) (lw : lengt
         let t = MatchOption-at_none _ _ passes told in
         absurd (t.4 k.0 k.1)
 
-abbrev eight : List ℕ
-eight = 0 ∷ 1 ∷ 2 ∷ 3 ∷ 4 ∷ 5 ∷ 6 ∷ 7 ∷ []
+module _ (m n k : ℕ) (em : m ≡ 3) (en : n ≡ 8) (ek : k ≡ 2) where
+  -- the Reed-Solomon code that was made is the example's
+  same : reed_solomon (polynomial m) n k ≡ reed_solomon (polynomial 3) 8 2
+  same = rw em (rw en (rw ek refl))
 
-kind : InKind (polynomial 3) 8 2
-kind = (lit≤ tt, lit≤ tt, lit≤ tt)
+  pub kind_of_eight : InKind (polynomial m) n k
+  kind_of_eight = rw em (rw en (rw ek (lit≤ tt, lit≤ tt, lit≤ tt)))
 
-pub kind_of_eight : (m n k : ℕ) → m ≡ 3 → n ≡ 8 → k ≡ 2 → InKind (polynomial m) n k
-kind_of_eight m n k em en ek = rw em (rw en (rw ek kind))
+  pub encoded_once : (word : List ℕ) (r : Result (Unit {0}) Fault) → Encoded (reed_solomon (polynomial m) n k) (0 ∷ 1 ∷ []) (replicate 8 0) word r → word ≡ 0 ∷ 1 ∷ 2 ∷ 3 ∷ 4 ∷ 5 ∷ 6 ∷ 7 ∷ []
+  encoded_once word r told = (subst (λ c. Encoded c (0 ∷ 1 ∷ []) (replicate 8 0) word r) same told).1 ∙ reed_solomon_example.0
 
-pub encoded_once : (m n k : ℕ) → m ≡ 3 → n ≡ 8 → k ≡ 2 → (word : List ℕ) (r : Result (Unit {0}) Fault) → Encoded (reed_solomon (polynomial m) n k) (0 ∷ 1 ∷ []) (replicate 8 0) word r → word ≡ eight
-encoded_once m n k em en ek word r told =
-    let at_m = subst (λ (x : ℕ). Encoded (reed_solomon (polynomial x) n k) (0 ∷ 1 ∷ []) (replicate 8 0) word r) em told in
-    let at_n = subst (λ (x : ℕ). Encoded (reed_solomon (polynomial 3) x k) (0 ∷ 1 ∷ []) (replicate 8 0) word r) en at_m in
-    (subst (λ (x : ℕ). Encoded (reed_solomon (polynomial 3) 8 x) (0 ∷ 1 ∷ []) (replicate 8 0) word r) ek at_n).1 ∙ reed_solomon_example.0
-
-pub mended_once : (m n k : ℕ) → m ≡ 3 → n ≡ 8 → k ≡ 2 → (word : List ℕ) (r : Result ℕ Fault) → Corrected (reed_solomon (polynomial m) n k) (0 ∷ 1 ∷ 2 ∷ 3 ∷ 0 ∷ 0 ∷ 0 ∷ 7 ∷ []) (replicate 8 0) word r → (r ≡ Ok 6) × (word ≡ eight)
-mended_once m n k em en ek word r told =
-    let word₀ : List ℕ = 0 ∷ 1 ∷ 2 ∷ 3 ∷ 0 ∷ 0 ∷ 0 ∷ 7 ∷ [] in
-    let at_m = subst (λ (x : ℕ). Corrected (reed_solomon (polynomial x) n k) word₀ (replicate 8 0) word r) em told in
-    let at_n = subst (λ (x : ℕ). Corrected (reed_solomon (polynomial 3) x k) word₀ (replicate 8 0) word r) en at_m in
-    let lawful = reed_solomon_lawful (polynomial 3) (polynomial_laws 3 (lit≤ tt) (lit≤ tt)) 8 2 kind in
-    once (reed_solomon (polynomial 3) 8 2) lawful word₀ (replicate 8 0) refl refl refl eight word 6 reed_solomon_example.1 r (subst (λ (x : ℕ). Corrected (reed_solomon (polynomial 3) 8 x) word₀ (replicate 8 0) word r) ek at_n)
+  pub mended_once : (word : List ℕ) (r : Result ℕ Fault) → Corrected (reed_solomon (polynomial m) n k) (0 ∷ 1 ∷ 2 ∷ 3 ∷ 0 ∷ 0 ∷ 0 ∷ 7 ∷ []) (replicate 8 0) word r → (r ≡ Ok 6) × (word ≡ 0 ∷ 1 ∷ 2 ∷ 3 ∷ 4 ∷ 5 ∷ 6 ∷ 7 ∷ [])
+  mended_once word r told =
+      let damaged : List ℕ = 0 ∷ 1 ∷ 2 ∷ 3 ∷ 0 ∷ 0 ∷ 0 ∷ 7 ∷ [] in
+      let lawful = reed_solomon_lawful (polynomial 3) (polynomial_laws 3 (lit≤ tt) (lit≤ tt)) 8 2 (lit≤ tt, lit≤ tt, lit≤ tt) in
+      once (reed_solomon (polynomial 3) 8 2) lawful damaged (replicate 8 0) refl refl refl _ word 6 reed_solomon_example.1 r (subst (λ c. Corrected c damaged (replicate 8 0) word r) same told)
 
 pub repeated_once : (m n : ℕ) → m ≡ 1 → n ≡ 4 → (word : List ℕ) (r : Result ℕ Fault) → Corrected (repetition_code m n) (1 ∷ 1 ∷ 0 ∷ 0 ∷ []) (0 ∷ 0 ∷ 0 ∷ 1 ∷ []) word r → (r ≡ Ok 3) × (word ≡ 1 ∷ 1 ∷ 1 ∷ 1 ∷ [])
 repeated_once m n em en word r told =
-    let word₀ : List ℕ = 1 ∷ 1 ∷ 0 ∷ 0 ∷ [] in
-    let marks : List ℕ = 0 ∷ 0 ∷ 0 ∷ 1 ∷ [] in
-    let at_m = subst (λ (x : ℕ). Corrected (repetition_code x n) word₀ marks word r) em told in
     let lawful = repetition_lawful 1 4 ((lit≤ tt, lit≤ tt), (lit≤ tt, lit≤ tt)) in
-    once (repetition_code 1 4) lawful word₀ marks refl refl refl (1 ∷ 1 ∷ 1 ∷ 1 ∷ []) word 3 repetition_example.0 r (subst (λ (x : ℕ). Corrected (repetition_code 1 x) word₀ marks word r) en at_m)
+    once (repetition_code 1 4) lawful (1 ∷ 1 ∷ 0 ∷ 0 ∷ []) (0 ∷ 0 ∷ 0 ∷ 1 ∷ []) refl refl refl _ word 3 repetition_example.0 r (subst₂ (λ (x y : ℕ). Corrected (repetition_code x y) (1 ∷ 1 ∷ 0 ∷ 0 ∷ []) (0 ∷ 0 ∷ 0 ∷ 1 ∷ []) word r) em en told)
 
-abbrev zeros : List ℕ
-zeros = replicate 8 0
+module _ (k : ℕ) (is : k ≡ 3) (r : Result (Option Estimate) Fault) where
+  pub near_once : Determined (muller_chain k) 4 (replicate 3 0) (1 ∷ 1 ∷ 1 ∷ 1 ∷ 1 ∷ 0 ∷ 0 ∷ 0 ∷ []) (replicate 8 0) r → r ≡ Ok (Some near_estimate)
+  near_once told = subst (λ (x : ℕ). Determined (muller_chain x) 4 (replicate 3 0) (1 ∷ 1 ∷ 1 ∷ 1 ∷ 1 ∷ 0 ∷ 0 ∷ 0 ∷ []) (replicate 8 0) r) is told refl (Some near_estimate) muller_examples.near
 
-pub near_once : (k : ℕ) → k ≡ 3 → (r : Result (Option Estimate) Fault) → Determined (muller_chain k) 4 (replicate 3 0) (1 ∷ 1 ∷ 1 ∷ 1 ∷ 1 ∷ 0 ∷ 0 ∷ 0 ∷ []) zeros r → r ≡ Ok (Some near_estimate)
-near_once k is r told =
-    subst (λ (x : ℕ). Determined (muller_chain x) 4 (replicate 3 0) (1 ∷ 1 ∷ 1 ∷ 1 ∷ 1 ∷ 0 ∷ 0 ∷ 0 ∷ []) zeros r) is told refl (Some near_estimate) muller_examples.near
-
-pub midway_once : (k : ℕ) → k ≡ 3 → (r : Result (Option Estimate) Fault) → Determined (muller_chain k) 4 (replicate 3 0) (1 ∷ 1 ∷ 1 ∷ 1 ∷ 0 ∷ 0 ∷ 0 ∷ 0 ∷ []) zeros r → r ≡ Ok None
-midway_once k is r told =
-    subst (λ (x : ℕ). Determined (muller_chain x) 4 (replicate 3 0) (1 ∷ 1 ∷ 1 ∷ 1 ∷ 0 ∷ 0 ∷ 0 ∷ 0 ∷ []) zeros r) is told refl None muller_examples.absent
+  pub midway_once : Determined (muller_chain k) 4 (replicate 3 0) (1 ∷ 1 ∷ 1 ∷ 1 ∷ 0 ∷ 0 ∷ 0 ∷ 0 ∷ []) (replicate 8 0) r → r ≡ Ok None
+  midway_once told = subst (λ (x : ℕ). Determined (muller_chain x) 4 (replicate 3 0) (1 ∷ 1 ∷ 1 ∷ 1 ∷ 0 ∷ 0 ∷ 0 ∷ 0 ∷ []) (replicate 8 0) r) is told refl None muller_examples.absent

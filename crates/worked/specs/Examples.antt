@@ -14,16 +14,16 @@ use Rattle.codes.specs.Examples.{RepetitionExample}
 use Rattle.chains.specs.Examples.{MullerExamples}
 use Rattle.stage_laws.specs.Examples.{StageExample}
 
--- what making the extension by c over the polynomial field of width 4 may answer
-abbrev pub Extended : ℕ → Result (Extension Polynomial) Fault → Type 0
-Extended c = Makes (Extends (polynomial 4) c) (λ (x : Extension Polynomial). (x.base.width ≡ 4) × (x.c ≡ c))
+-- what the maker of extensions promises of a polynomial field, which is always sound, and of c
+abbrev pub MakesExtension : Polynomial → ℕ → Result (Extension Polynomial) Fault → Type 0
+MakesExtension base c = Makes (Unit {0} × Extends (polynomial base.width) c) (λ (x : Extension Polynomial). (x.base ≡ base) × (x.c ≡ c))
 
 pub record WorkedExamples : Type 0 where
   -- 2·5 = 1 at width 3, 2·0x8E = 1 at width 8, and 16·16 = 24 over width 4 with c = 8
   pub products : Examples
   pub lawful : Extends (polynomial 4) 8
-  -- c = 1 has no other answer than the refusal that is numbered 13
-  pub refused : (r : Result (Extension Polynomial) Fault) → Extended 1 r → r ≡ Err unlawful
+  -- by c = 1 there the maker answers nothing but the refusal that is numbered 13
+  pub refused : (base : Polynomial) → base.width ≡ 4 → (r : Result (Extension Polynomial) Fault) → MakesExtension base 1 r → r ≡ Err unlawful
   pub thirteen : number_of unlawful.kind ≡ 13
   -- 0 1 has the codeword 0 1 2 3 4 5 6 7, to which 0 1 2 3 0 0 0 7 corrects with harm 6
   pub reed_solomon : ReedSolomonExample

@@ -16,7 +16,6 @@ fn code_of_eight() -> Result<ReedSolomon<Polynomial>, Fault>
 }
 
 /// The codeword of the message 0 1.
-#[tactic(auto, using(crate::proofs::Once::encoded_once, crate::proofs::Once::kind_of_eight))]
 pub(crate) fn encoded() -> Result<[u8; 8], Fault>
     ensures { result ≡ Ok (0 ∷ 1 ∷ 2 ∷ 3 ∷ 4 ∷ 5 ∷ 6 ∷ 7 ∷ []) }
 {
@@ -27,7 +26,6 @@ pub(crate) fn encoded() -> Result<[u8; 8], Fault>
 }
 
 /// The word 0 1 2 3 0 0 0 7, corrected, and its harm.
-#[tactic(auto, using(crate::proofs::Once::mended_once, crate::proofs::Once::kind_of_eight))]
 pub(crate) fn mended() -> Result<([u8; 8], usize), Fault>
     ensures { result ≡ Ok (0 ∷ 1 ∷ 2 ∷ 3 ∷ 4 ∷ 5 ∷ 6 ∷ 7 ∷ [], 6) }
 {

@@ -18,7 +18,6 @@ pub(crate) fn word_of_labels() -> Result<[u8; 8], Fault>
 }
 
 /// The estimate of 1 1 1 1 1 0 0 0 at stage 4 after zeros.
-#[tactic(auto, using(crate::proofs::Once::near_once))]
 pub(crate) fn near() -> Result<Option<Estimate>, Fault>
     ensures { result ≡ Ok (Some near_estimate) }
 {
@@ -27,7 +26,6 @@ pub(crate) fn near() -> Result<Option<Estimate>, Fault>
 }
 
 /// The estimate of 1 1 1 1 0 0 0 0 there.
-#[tactic(auto, using(crate::proofs::Once::midway_once))]
 pub(crate) fn midway() -> Result<Option<Estimate>, Fault>
     ensures { result ≡ Ok None }
 {
