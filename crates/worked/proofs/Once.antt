@@ -19,6 +19,8 @@ use Rattle.codes.proofs.Nearness.{only_one_near}
 use Rattle.reed_solomon_laws.specs.Words.{InKind, reed_solomon}
 use Rattle.reed_solomon_laws.proofs.Laws.{reed_solomon_lawful}
 use Rattle.reed_solomon.proofs.Examples.{reed_solomon_example}
+use Rattle.fields.specs.declared.polynomial.Polynomial.{Polynomial}
+use Rattle.reed_solomon.specs.declared.code.ReedSolomon.{ReedSolomon}
 use Rattle.chains.specs.declared.chain.Estimate.{Estimate}
 use Rattle.chains.specs.Derived.{Determined}
 use Rattle.chains.specs.Examples.{near_estimate}
@@ -39,22 +41,34 @@ module _ (c : CodeModel) (lawful : Lawful c) (word marks : List ℕ) (lw : lengt
         let t = MatchOption-at_none _ _ passes told in
         absurd (t.4 k.0 k.1)
 
-module _ (m n k : ℕ) (em : m ≡ 3) (en : n ≡ 8) (ek : k ≡ 2) where
-  -- the Reed-Solomon code that was made is the example's
-  same : reed_solomon (polynomial m) n k ≡ reed_solomon (polynomial 3) 8 2
-  same = rw em (rw en (rw ek refl))
+same : (m n k : ℕ) → m ≡ 3 → n ≡ 8 → k ≡ 2 → reed_solomon (polynomial m) n k ≡ reed_solomon (polynomial 3) 8 2
+same m n k em en ek = rw em (rw en (rw ek refl))
 
-  pub kind_of_eight : InKind (polynomial m) n k
-  kind_of_eight = rw em (rw en (rw ek (lit≤ tt, lit≤ tt, lit≤ tt)))
+kind : (m n k : ℕ) → m ≡ 3 → n ≡ 8 → k ≡ 2 → InKind (polynomial m) n k
+kind m n k em en ek = rw em (rw en (rw ek (lit≤ tt, lit≤ tt, lit≤ tt)))
 
-  pub encoded_once : (word : List ℕ) (r : Result (Unit {0}) Fault) → Encoded (reed_solomon (polynomial m) n k) (0 ∷ 1 ∷ []) (replicate 8 0) word r → word ≡ 0 ∷ 1 ∷ 2 ∷ 3 ∷ 4 ∷ 5 ∷ 6 ∷ 7 ∷ []
-  encoded_once word r told = (subst (λ c. Encoded c (0 ∷ 1 ∷ []) (replicate 8 0) word r) same told).1 ∙ reed_solomon_example.0
+-- the Reed-Solomon code that is made is the example's
+module _ (code : ReedSolomon Polynomial) (is : (code.field.width ≡ 3) × (code.len ≡ 8) × (code.message_len ≡ 2)) where
+  abbrev model : CodeModel
+  model = reed_solomon (polynomial code.field.width) code.len code.message_len
 
-  pub mended_once : (word : List ℕ) (r : Result ℕ Fault) → Corrected (reed_solomon (polynomial m) n k) (0 ∷ 1 ∷ 2 ∷ 3 ∷ 0 ∷ 0 ∷ 0 ∷ 7 ∷ []) (replicate 8 0) word r → (r ≡ Ok 6) × (word ≡ 0 ∷ 1 ∷ 2 ∷ 3 ∷ 4 ∷ 5 ∷ 6 ∷ 7 ∷ [])
+  abbrev Sound : Type 0
+  Sound = Unit {0} × InKind (polynomial code.field.width) code.len code.message_len
+
+  example : model ≡ reed_solomon (polynomial 3) 8 2
+  example = same code.field.width code.len code.message_len is.0 is.1 is.2
+
+  sound : Sound
+  sound = (tt, kind code.field.width code.len code.message_len is.0 is.1 is.2)
+
+  pub encoded_once : (word : List ℕ) (r : Result (Unit {0}) Fault) → (Sound → Encoded model (0 ∷ 1 ∷ []) (replicate 8 0) word r) → word ≡ 0 ∷ 1 ∷ 2 ∷ 3 ∷ 4 ∷ 5 ∷ 6 ∷ 7 ∷ []
+  encoded_once word r told = (subst (λ c. Encoded c (0 ∷ 1 ∷ []) (replicate 8 0) word r) example (told sound)).1 ∙ reed_solomon_example.0
+
+  pub mended_once : (word : List ℕ) (r : Result ℕ Fault) → (Sound → Corrected model (0 ∷ 1 ∷ 2 ∷ 3 ∷ 0 ∷ 0 ∷ 0 ∷ 7 ∷ []) (replicate 8 0) word r) → (r ≡ Ok 6) × (word ≡ 0 ∷ 1 ∷ 2 ∷ 3 ∷ 4 ∷ 5 ∷ 6 ∷ 7 ∷ [])
   mended_once word r told =
       let damaged : List ℕ = 0 ∷ 1 ∷ 2 ∷ 3 ∷ 0 ∷ 0 ∷ 0 ∷ 7 ∷ [] in
       let lawful = reed_solomon_lawful (polynomial 3) (polynomial_laws 3 (lit≤ tt) (lit≤ tt)) 8 2 (lit≤ tt, lit≤ tt, lit≤ tt) in
-      once (reed_solomon (polynomial 3) 8 2) lawful damaged (replicate 8 0) refl refl refl _ word 6 reed_solomon_example.1 r (subst (λ c. Corrected c damaged (replicate 8 0) word r) same told)
+      once (reed_solomon (polynomial 3) 8 2) lawful damaged (replicate 8 0) refl refl refl _ word 6 reed_solomon_example.1 r (subst (λ c. Corrected c damaged (replicate 8 0) word r) example (told sound))
 
 pub repeated_once : (m n : ℕ) → m ≡ 1 → n ≡ 4 → (word : List ℕ) (r : Result ℕ Fault) → Corrected (repetition_code m n) (1 ∷ 1 ∷ 0 ∷ 0 ∷ []) (0 ∷ 0 ∷ 0 ∷ 1 ∷ []) word r → (r ≡ Ok 3) × (word ≡ 1 ∷ 1 ∷ 1 ∷ 1 ∷ [])
 repeated_once m n em en word r told =
