@@ -1,17 +1,14 @@
 -- What the calls' contracts leave of an answer, where an example gives one. Assumes nothing.
 use Rattle.std.proofs.Common.{◌≡◌, ℕ, List, [], ◌∷◌, length, replicate, None, Some, Ok, Err, Option, Result, refl, sym, ap, ◌∙◌, subst, subst₂, lit≤}
-use Rattle.std.specs.Result as results
 use Rattle.std.proofs.lemmas.Option.{MatchOption-at_none}
 use Rattle.words.specs.declared.fault.Fault.{Fault}
-use Rattle.words.specs.declared.fault.Kind.TheVariants.{NoCodeword}
 use Rattle.words.specs.declared.fault.Layer.TheVariants.{Code}
 use Rattle.words.specs.Buffers.{refusal}
-use Rattle.words.specs.Faults.{fault}
 use Rattle.words.specs.Harm.{harm}
 use Rattle.field_laws.specs.Polynomials.{polynomial}
 use Rattle.field_laws.proofs.PolynomialLaws.{polynomial_laws}
 use Rattle.codes.specs.Kinds.{repetition_code}
-use Rattle.codes.specs.Model.{CodeModel, Lawful, Near}
+use Rattle.codes.specs.Model.{CodeModel, Lawful}
 use Rattle.codes.specs.Promises.{Corrected, Encoded, symbols_of, marks_of}
 use Rattle.codes.specs.Repeats.{repetition_lawful}
 use Rattle.codes.proofs.Examples.{repetition_example}

@@ -1,7 +1,7 @@
 -- The worked examples of the rules, together. Each is stated of what the contracts of the calls speak of. Assumes nothing.
 use Rattle.std.specs.Prelude.{◌≡◌, ℕ, Err, Result}
 use Rattle.words.specs.declared.fault.Fault.{Fault}
-use Rattle.words.specs.declared.fault.Kind.TheVariants.{NoCodeword, UnlawfulField}
+use Rattle.words.specs.declared.fault.Kind.TheVariants.{NoCodeword}
 use Rattle.words.specs.Faults.{number_of}
 use Rattle.field_laws.specs.Extensions.{Extends}
 use Rattle.field_laws.specs.Polynomials.{polynomial}
