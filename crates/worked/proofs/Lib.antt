@@ -1,0 +1,2 @@
+pub mod Once
+pub mod Together
