@@ -49,9 +49,9 @@ fn describe_all(rt: &HostRuntime, recipes: &[String]) -> anyhow::Result<()> {
 fn survey_input(rt: &HostRuntime) -> anyhow::Result<()> {
     let mut survey = survey::Survey::new(rt.alloc());
     for line in rt.lines(rt.alloc()) {
-        survey.note(rt.alloc(), line?.as_str())?;
+        survey.note(line?.as_str())?;
     }
-    rt.print(survey.table(rt.alloc())?.as_str())?;
+    rt.print(survey.table()?.as_str())?;
     Ok(())
 }
 
