@@ -1,3 +1,4 @@
+use crate::faults::refused;
 use chains::reed_muller::ReedMuller;
 use codes::open::Open;
 use codes::repetition::Repetition;
@@ -19,10 +20,6 @@ fn small_pile() -> Result<Pile<ReedMuller, Either<Open, Repetition>>, Fault> {
         Either::Left(Open::new(1, 8)?),
     ];
     Pile::new(ReedMuller::new(3)?, &stages)
-}
-
-fn refused(kind: Kind, layer: Layer, place: usize, page: usize) -> Fault {
-    Fault::new(kind, layer, place).on_page(page)
 }
 
 // Three blank cells are below the reach. A fourth is not: it uses up the third stage's distance of 4 times 1, until it takes a state again.

@@ -1,3 +1,4 @@
+use crate::faults::refused;
 use codes::open::Open;
 use codes::repetition::Repetition;
 use media::medium::Medium;
@@ -5,10 +6,6 @@ use media::packed::Packed;
 use memories::memory::Memory;
 use std::test::Fail;
 use words::fault::{Fault, Kind, Layer};
-
-fn refused(kind: Kind, layer: Layer, place: usize, page: usize) -> Fault {
-    Fault::new(kind, layer, place).on_page(page)
-}
 
 // Ten cells in four bytes: the row of values, then the row of marks.
 #[test]

@@ -1,9 +1,14 @@
 // Words as text: a cell is 0, 1 or, where it is blank, ?. A message is written so too, with no blank. Spaces do not count.
 
-use std::alloc::{AllocError, Global};
+use crate::failure::Failure;
+use chains::chain::Chain;
+use recipe_piles::making::chain_of;
+use recipes::recipe::Recipe;
+use std::alloc::Global;
 use std::fmt;
+use words::fault::Fault;
 
-/// A word beside its marks.
+/// A word beside its marks: two buffers, as the calls of a code take them.
 #[derive(Drop)]
 pub(crate) struct Word {
     pub(crate) cells: Vec<u8>,
@@ -20,53 +25,70 @@ fn cell(character: u8) -> Option<(u8, u8)> {
     }
 }
 
+// What is done to a cell, by its number.
+#[derive(Clone, Copy)]
+enum Change {
+    TurnOver(usize),
+    MakeBlank(usize),
+}
+
+impl Change {
+    fn parse(text: &str) -> Option<Self> {
+        match text.strip_suffix("?") {
+            Some(number) => number.parse().ok().map(Change::MakeBlank),
+            None => text.parse().ok().map(Change::TurnOver),
+        }
+    }
+}
+
 impl Word {
-    /// The word that a text writes, where it writes one.
-    pub(crate) fn parse(heap: Global, text: &str) -> Result<Option<Self>, AllocError> {
+    /// The word that a text writes.
+    pub(crate) fn parse(heap: Global, text: &str) -> Result<Self, Failure> {
         let mut cells = Vec::new(heap);
         let mut marks = Vec::new(heap);
         for character in text.as_bytes() {
             if *character == b' ' {
                 continue;
             }
-            let Some((value, mark)) = cell(*character) else {
-                return Ok(None);
-            };
+            let (value, mark) = cell(*character).ok_or(Failure::NotCells)?;
             cells.push(value)?;
             marks.push(mark)?;
         }
-        Ok(Some(Word { cells, marks }))
+        Ok(Word { cells, marks })
     }
 
     /// The same with no blank: the bits of a message.
-    pub(crate) fn parse_bits(heap: Global, text: &str) -> Result<Option<Vec<u8>>, AllocError> {
-        let word = Word::parse(heap, text)?;
-        Ok(
-            word.filter(|word| word.marks.iter().all(|mark| *mark == 0))
-                .map(|word| word.cells),
-        )
+    pub(crate) fn parse_bits(heap: Global, text: &str) -> Result<Vec<u8>, Failure> {
+        let Word { cells, marks } = Word::parse(heap, text)?;
+        if marks.contains(&1) {
+            return Err(Failure::NotCells);
+        }
+        Ok(cells)
     }
 
-    /// Does what a text asks for: a number turns that cell over, and a number with ? behind it makes the cell blank. Answers
-    /// whether the text says so of a cell of this word.
-    pub(crate) fn damage(&mut self, change: &str) -> bool {
-        let (number, blank) = match change.strip_suffix("?") {
-            Some(number) => (number, true),
-            None => (change, false),
-        };
-        let Ok(cell) = number.parse::<usize>() else {
-            return false;
-        };
-        if cell >= self.cells.len() || cell >= self.marks.len() {
-            return false;
-        }
-        if blank {
-            self.marks[cell] = 1;
-        } else {
-            self.cells[cell] = 1 - self.cells[cell].min(1);
-        }
-        true
+    /// Does what a text asks for: a number turns that cell over, and a number with ? behind it makes the cell blank.
+    pub(crate) fn damage(&mut self, change: &str) -> Result<(), Failure> {
+        Change::parse(change)
+            .and_then(|change| self.apply(change))
+            .ok_or(Failure::NoChange)
     }
+
+    // Changes a cell, if the word has it.
+    fn apply(&mut self, change: Change) -> Option<()> {
+        match change {
+            Change::TurnOver(cell) => {
+                let value = self.cells.get_mut(cell)?;
+                *value = 1 - (*value).min(1);
+            }
+            Change::MakeBlank(cell) => *self.marks.get_mut(cell)? = 1,
+        }
+        Some(())
+    }
+}
+
+/// How many cells a column of a recipe's words has.
+pub(crate) fn breadth_of(recipe: &Recipe) -> Result<usize, Fault> {
+    Ok(chain_of(recipe)?.breadth())
 }
 
 /// A word as it prints, with a space between columns.

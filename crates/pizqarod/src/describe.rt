@@ -2,26 +2,21 @@
 ghost use Rattle.std.specs.Prelude.{IfOk};
 ghost use Rattle.pizqarod.specs.Telling.{Tells};
 
+use crate::failure::Failure;
 use crate::hex;
 use recipes::recipe::Recipe;
 use std::alloc::{AllocError, Global};
 use std::fmt;
+use thiserror::Error;
 use words::fault::Fault;
 
 /// Why a text gives no recipe.
-#[derive(Debug, Drop)]
+#[derive(Debug, Drop, Error)]
 pub(crate) enum TextError {
+    #[error("{0}")]
     Refused(Fault),
+    #[error("not hexadecimal text of whole bytes")]
     NotHexadecimal,
-}
-
-impl fmt::Display for TextError {
-    fn fmt<W: fmt::Write>(&self, f: &mut fmt::Formatter<W>) -> fmt::Result {
-        match self {
-            TextError::Refused(fault) => write!(f, "{fault}"),
-            TextError::NotHexadecimal => f.write_str("not hexadecimal text of whole bytes"),
-        }
-    }
 }
 
 /// Reads a recipe from hexadecimal text.
@@ -32,6 +27,11 @@ pub(crate) fn read_text(heap: Global, text: &str) -> Result<Result<Recipe, TextE
         None => Ok(Err(TextError::NotHexadecimal)),
         Some(bytes) => Ok(Recipe::read(bytes.as_slice()).map_err(TextError::Refused)),
     }
+}
+
+/// The recipe of a text, for commands that need one.
+pub(crate) fn recipe_of(heap: Global, text: &str) -> Result<Recipe, Failure> {
+    read_text(heap, text)?.map_err(Failure::Recipe)
 }
 
 // A recipe's lines: its chain, a line a stage, and the totals.

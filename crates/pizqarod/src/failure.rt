@@ -1,4 +1,4 @@
-// Why a word of a recipe is not worked on.
+// Why a command is not done.
 
 use crate::describe::TextError;
 use std::alloc::AllocError;
@@ -13,8 +13,10 @@ pub(crate) enum Failure {
     NotCells,
     #[error("no change of a cell of the word: a number, or a number and ?")]
     NoChange,
+    #[error("no such action, or not its numbers")]
+    NoAction,
     #[error("{0}")]
     Refused(#[from] Fault),
     #[error("out of memory")]
-    OutOfMemory(#[from] AllocError),
+    OutOfMemory(#[from(alloc)] AllocError),
 }

@@ -1,15 +1,15 @@
 // The pages of a packed image, under the code of a recipe.
 
+use crate::cells::breadth_of;
 use crate::failure::Failure;
-use crate::picture::{Payload, Picture};
-use chains::chain::Chain;
+use crate::picture::{Picture, Row};
 use codes::code::Code;
 use lives::call::{Answer, Call};
 use lives::life::live;
 use media::medium::Medium;
 use media::packed::Packed;
 use memories::memory::Memory;
-use recipe_piles::making::{chain_of, pile_of};
+use recipe_piles::making::pile_of;
 use recipe_piles::parts::RecipePile;
 use recipes::recipe::Recipe;
 use std::alloc::{AllocError, Global};
@@ -18,7 +18,6 @@ use std::alloc::{AllocError, Global};
 #[derive(Drop)]
 pub(crate) struct Image {
     bytes: Vec<u8>,
-    pages: usize,
     recipe: Recipe,
     pile: RecipePile,
     heap: Global,
@@ -31,7 +30,8 @@ pub(crate) struct Outcome {
     pub(crate) payloads: Vec<u8>,
 }
 
-// The bytes of a page of so many cells: a row of values and a row of marks, each in whole bytes.
+// The bytes of a page of so many cells: a row of values and a row of marks, each in whole bytes. The layout of media once more, whose own
+// count is private and asks for at most 4,096 cells: here a number is wanted for any.
 fn page_bytes(cells: usize) -> usize {
     cells.div_ceil(8).saturating_mul(2)
 }
@@ -40,7 +40,6 @@ impl Image {
     /// The image that bytes hold. Where they are no whole pages, each action is refused.
     pub(crate) fn open(heap: Global, recipe: &Recipe, bytes: Vec<u8>) -> Result<Self, Failure> {
         Ok(Image {
-            pages: bytes.len() / page_bytes(recipe.cells()).max(1),
             bytes,
             recipe: *recipe,
             pile: pile_of(recipe)?,
@@ -52,7 +51,6 @@ impl Image {
     pub(crate) fn renew(&mut self, pages: usize) -> Result<(), AllocError> {
         let page = page_bytes(self.recipe.cells());
         self.bytes = vec![in self.heap; 0; page.saturating_mul(pages)]?;
-        self.pages = pages;
         Ok(())
     }
 
@@ -60,8 +58,9 @@ impl Image {
         self.bytes.as_slice()
     }
 
+    /// How many whole pages the bytes have.
     pub(crate) fn pages(&self) -> usize {
-        self.pages
+        self.bytes.len() / page_bytes(self.recipe.cells()).max(1)
     }
 
     /// How many bytes a page holds.
@@ -70,9 +69,10 @@ impl Image {
     }
 
     fn medium(&mut self) -> Packed<'_> {
+        let pages = self.pages();
         Packed {
             bytes: &mut self.bytes,
-            pages: self.pages,
+            pages,
             breadth: self.recipe.cells(),
         }
     }
@@ -94,7 +94,7 @@ impl Image {
     /// Shows a page: its harm, its blank cells, how far it is from the reach, and a picture.
     pub(crate) fn inspect(&mut self, page: usize) -> Result<String, Failure> {
         let (pile, heap) = (self.pile, self.heap);
-        let column = chain_of(&self.recipe)?.breadth();
+        let column = breadth_of(&self.recipe)?;
         let mut cells = vec![in heap; 0; self.recipe.cells()]?;
         let mut marks = vec![in heap; 0; self.recipe.cells()]?;
         if let Err(fault) = self.medium().fetch(page, &mut cells, &mut marks) {
@@ -105,9 +105,11 @@ impl Image {
         let blanks = marks.iter().filter(|mark| **mark != 0).count();
         let answer = pile.correct(&mut corrected, marks.as_slice());
         let picture = Picture {
-            cells: cells.as_slice(),
-            marks: marks.as_slice(),
-            corrected: corrected.as_slice(),
+            page: Row {
+                cells: cells.as_slice(),
+                marks: marks.as_slice(),
+                corrected: corrected.as_slice(),
+            },
             column,
         };
         let reach = pile.distance();
@@ -131,6 +133,7 @@ impl Image {
 #[cfg(test)]
 mod tests {
     use super::*;
+    use std::iter;
     use std::test::Fail;
     use words::fault::{Fault, Kind, Layer};
 
@@ -165,15 +168,15 @@ mod tests {
         let recipe = [0x13, 0, 8, 2, 0, 1, 1, 0, 5, 1, 0, 7, 0, 0, 8];
         let mut image = Image::open(heap, &Recipe::read(&recipe)?, Vec::new(heap))?;
         image.renew(1)?;
-        let mut calls = Vec::new(heap);
-        for (j, state) in states.iter().enumerate() {
-            calls.push(Call::Wear {
+        let wears = (0..64).step_by(9).zip(states);
+        let calls: Vec<Call<'_>> = wears
+            .map(|(cell, state)| Call::Wear {
                 page: 0,
-                cell: 9 * j,
+                cell,
                 state: *state,
-            })?;
-        }
-        calls.push(Call::Read { page: 0 })?;
+            })
+            .chain(iter::once(Call::Read { page: 0 }))
+            .collect(heap)?;
         let outcome = image.live(calls.as_slice())?;
         if outcome.payloads.iter().any(|byte| *byte != 0) {
             return Err(Fail::new("other bytes than were recorded"));

@@ -8,17 +8,19 @@ mod failure;
 mod hex;
 mod image;
 mod picture;
+mod session;
 mod single;
 mod survey;
 mod told;
 mod watch;
 
-use crate::actions::{act_on, run_script};
+use crate::actions::Action;
 use crate::failure::Failure;
+use crate::session::Session;
 use crate::single::{damage, decode, encode};
 use anyhow::anyhow;
 use std::alloc::Global;
-use std::env;
+use std::{env, fs, iter};
 
 const USAGE: &str =
     "pizqarod describe HEX..   what each recipe is: a line a stage and the totals, or why it is refused
@@ -49,9 +51,9 @@ fn describe_all(rt: &HostRuntime, recipes: &[String]) -> anyhow::Result<()> {
 fn survey_input(rt: &HostRuntime) -> anyhow::Result<()> {
     let mut survey = survey::Survey::new(rt.alloc());
     for line in rt.lines(rt.alloc()) {
-        survey.note(rt.alloc(), line?.as_str())?;
+        survey.note(line?.as_str())?;
     }
-    rt.print(survey.table(rt.alloc())?.as_str())?;
+    rt.print(survey.table()?.as_str())?;
     Ok(())
 }
 
@@ -78,14 +80,14 @@ fn run(rt: &HostRuntime, heap: Global) -> anyhow::Result<()> {
         }
         ("decode", [recipe, word]) => tell(rt, decode(heap, recipe.as_str(), word.as_str())),
         ("run", [image, recipe, script]) => {
-            run_script(rt, image.as_str(), recipe.as_str(), script.as_str())
+            let script = fs::read_to_string(rt, script.as_str())?;
+            Session::open(rt, image.as_str(), recipe.as_str())?.run_script(script.as_str())
         }
         (action, [image, recipe, rest @ ..]) => {
-            let mut words = vec![in heap; action]?;
-            for word in rest {
-                words.push(word.as_str())?;
-            }
-            act_on(rt, image.as_str(), recipe.as_str(), words.as_slice())
+            let rest = rest.iter().map(|word| word.as_str());
+            let words: Vec<&str> = iter::once(action).chain(rest).collect(heap)?;
+            let action = Action::parse(words.as_slice())?;
+            Session::open(rt, image.as_str(), recipe.as_str())?.run_action(action)
         }
         _ => {
             rt.println(USAGE)?;

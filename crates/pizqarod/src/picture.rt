@@ -20,12 +20,18 @@ impl fmt::Display for Payload<'_> {
     }
 }
 
-/// A page's cells, a row for each column: ? for a blank cell, and a cell that correction would change as - for 0 and + for 1.
+/// Cells as they lie, beside their marks and what correction makes of them: buffers, as the calls of a medium and a code take them.
 #[derive(Clone, Copy)]
-pub(crate) struct Picture<'a> {
+pub(crate) struct Row<'a> {
     pub(crate) cells: &'a [u8],
     pub(crate) marks: &'a [u8],
     pub(crate) corrected: &'a [u8],
+}
+
+/// A page's cells, a row for each column: ? for a blank cell, and a cell that correction would change as - for 0 and + for 1.
+#[derive(Clone, Copy)]
+pub(crate) struct Picture<'a> {
+    pub(crate) page: Row<'a>,
     pub(crate) column: usize,
 }
 
@@ -40,18 +46,29 @@ fn shown(cell: u8, mark: u8, corrected: u8) -> &'static str {
     }
 }
 
+impl fmt::Display for Row<'_> {
+    fn fmt<W: fmt::Write>(&self, f: &mut fmt::Formatter<W>) -> fmt::Result {
+        let cells = self.cells.iter().zip(self.marks).zip(self.corrected);
+        for ((cell, mark), corrected) in cells {
+            f.write_str(shown(*cell, *mark, *corrected))?;
+        }
+        Ok(())
+    }
+}
+
 impl fmt::Display for Picture<'_> {
     fn fmt<W: fmt::Write>(&self, f: &mut fmt::Formatter<W>) -> fmt::Result {
         let column = self.column.max(1);
-        let cells = self.cells.iter().zip(self.marks).zip(self.corrected);
-        for (i, ((cell, mark), corrected)) in cells.enumerate() {
-            if i % column == 0 {
-                f.write_str("  ")?;
-            }
-            f.write_str(shown(*cell, *mark, *corrected))?;
-            if i % column == column - 1 {
-                f.write_str("\n")?;
-            }
+        let cells = self.page.cells.chunks(column);
+        let marks = self.page.marks.chunks(column);
+        let corrected = self.page.corrected.chunks(column);
+        for ((cells, marks), corrected) in cells.zip(marks).zip(corrected) {
+            let row = Row {
+                cells,
+                marks,
+                corrected,
+            };
+            writeln!(f, "  {row}")?;
         }
         Ok(())
     }
@@ -73,9 +90,11 @@ mod tests {
     #[test]
     fn changes_are_marked(rt: HostRuntime) -> Result<(), Fail> {
         let picture = Picture {
-            cells: &[0, 1, 0, 1, 1, 0],
-            marks: &[0, 0, 1, 0, 0, 0],
-            corrected: &[0, 0, 1, 1, 0, 1],
+            page: Row {
+                cells: &[0, 1, 0, 1, 1, 0],
+                marks: &[0, 0, 1, 0, 0, 0],
+                corrected: &[0, 0, 1, 1, 0, 1],
+            },
             column: 2,
         };
         let shown = format!(in rt.alloc(); "{picture}")?;

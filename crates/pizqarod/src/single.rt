@@ -1,29 +1,19 @@
 // Single words of a recipe: encoded, damaged, and decoded stage by stage.
 
-use crate::cells::{Columns, Word};
-use crate::describe::read_text;
+use crate::cells::{Columns, Word, breadth_of};
+use crate::describe::recipe_of;
 use crate::failure::Failure;
 use crate::watch::Watch;
-use chains::chain::Chain;
 use codes::code::Code;
-use recipe_piles::making::{chain_of, parts_of, pile_of};
-use recipe_piles::parts::Parts;
-use recipes::recipe::Recipe;
+use recipe_piles::making::{parts_of, pile_of};
+use recipe_piles::parts::{Parts, RecipePile};
 use std::alloc::Global;
 use words::fault::Kind;
-
-fn recipe_of(heap: Global, text: &str) -> Result<Recipe, Failure> {
-    read_text(heap, text)?.map_err(Failure::Recipe)
-}
-
-fn word_of(heap: Global, text: &str) -> Result<Word, Failure> {
-    Word::parse(heap, text)?.ok_or(Failure::NotCells)
-}
 
 /// The codeword of a message, a column behind the other.
 pub(crate) fn encode(heap: Global, recipe: &str, message: &str) -> Result<String, Failure> {
     let recipe = recipe_of(heap, recipe)?;
-    let message = Word::parse_bits(heap, message)?.ok_or(Failure::NotCells)?;
+    let message = Word::parse_bits(heap, message)?;
     let pile = pile_of(&recipe)?;
     let mut cells = vec![in heap; 0; pile.len()]?;
     pile.encode(message.as_slice(), &mut cells)?;
@@ -31,7 +21,7 @@ pub(crate) fn encode(heap: Global, recipe: &str, message: &str) -> Result<String
     let columns = Columns {
         cells: cells.as_slice(),
         marks: marks.as_slice(),
-        breadth: chain_of(&recipe)?.breadth(),
+        breadth: breadth_of(&recipe)?,
     };
     Ok(format!(in heap; "{columns}\n")?)
 }
@@ -44,16 +34,14 @@ pub(crate) fn damage(
     changes: &[String],
 ) -> Result<String, Failure> {
     let recipe = recipe_of(heap, recipe)?;
-    let mut word = word_of(heap, word)?;
+    let mut word = Word::parse(heap, word)?;
     for change in changes {
-        if !word.damage(change.as_str()) {
-            return Err(Failure::NoChange);
-        }
+        word.damage(change.as_str())?;
     }
     let columns = Columns {
         cells: word.cells.as_slice(),
         marks: word.marks.as_slice(),
-        breadth: chain_of(&recipe)?.breadth(),
+        breadth: breadth_of(&recipe)?,
     };
     Ok(format!(in heap; "{columns}\n")?)
 }
@@ -62,8 +50,8 @@ pub(crate) fn damage(
 fn watch(heap: Global, parts: &Parts, word: &Word) -> Result<String, Failure> {
     let mut text = String::new(heap);
     let mut watch = Watch::new(heap, parts, word);
-    for (i, code) in parts.codes().iter().enumerate() {
-        let watched = watch.next(i.saturating_add(1), code)?;
+    for code in parts.codes() {
+        let watched = watch.next(code)?;
         write!(text, "{watched}")?;
         if !watched.has_choice() {
             break;
@@ -72,16 +60,20 @@ fn watch(heap: Global, parts: &Parts, word: &Word) -> Result<String, Failure> {
     Ok(text)
 }
 
-// A codeword and its message.
-fn corrected(heap: Global, recipe: &Recipe, cells: &[u8]) -> Result<String, Failure> {
-    let pile = pile_of(recipe)?;
+// A codeword of a pile, with the breadth of its columns, and its message.
+fn corrected(
+    heap: Global,
+    pile: &RecipePile,
+    cells: &[u8],
+    breadth: usize,
+) -> Result<String, Failure> {
     let mut message = vec![in heap; 0; pile.message_len()]?;
     pile.message_of(cells, &mut message)?;
     let marks = vec![in heap; 0; pile.len()]?;
     let word = Columns {
         cells,
         marks: marks.as_slice(),
-        breadth: chain_of(recipe)?.breadth(),
+        breadth,
     };
     // A message is shown byte by byte.
     let message = Columns {
@@ -95,7 +87,7 @@ fn corrected(heap: Global, recipe: &Recipe, cells: &[u8]) -> Result<String, Fail
 /// The stages of a word's correction, and the answer: the harm, the codeword and its message, or the refusal.
 pub(crate) fn decode(heap: Global, recipe: &str, word: &str) -> Result<String, Failure> {
     let recipe = recipe_of(heap, recipe)?;
-    let word = word_of(heap, word)?;
+    let word = Word::parse(heap, word)?;
     let pile = pile_of(&recipe)?;
     let mut cells = Vec::from_slice(heap, word.cells.as_slice())?;
     let answer = pile.correct(&mut cells, word.marks.as_slice());
@@ -109,7 +101,7 @@ pub(crate) fn decode(heap: Global, recipe: &str, word: &str) -> Result<String, F
         Err(fault) => Ok(format!(in heap; "{watched}{fault}\n")?),
         Ok(harm) => {
             let reach = pile.distance();
-            let told = corrected(heap, &recipe, cells.as_slice())?;
+            let told = corrected(heap, &pile, cells.as_slice(), breadth_of(&recipe)?)?;
             Ok(format!(in heap;
                 "{watched}corrected, with harm {harm} below the reach {reach}\n{told}"
             )?)

@@ -34,6 +34,7 @@ pub(crate) struct Survey {
     rows: Vec<Row>,
     refused: String,
     lines: usize,
+    heap: Global,
 }
 
 impl Survey {
@@ -42,42 +43,41 @@ impl Survey {
             rows: Vec::new(heap),
             refused: String::new(heap),
             lines: 0,
+            heap,
         }
     }
 
-    fn add(&mut self, heap: Global, text: &str, recipe: &Recipe) -> Result<(), AllocError> {
+    fn add(&mut self, text: &str, recipe: &Recipe) -> Result<(), AllocError> {
         self.rows.push(Row {
             reach: recipe.reach(),
             bytes: recipe.bytes(),
             line: self.lines,
             bits: recipe.message_bits(),
             cells: recipe.cells(),
-            text: String::from_str(heap, text)?,
+            text: String::from_str(self.heap, text)?,
         })?;
         Ok(())
     }
 
     /// Takes in one line of input; an empty one is passed over.
-    pub(crate) fn note(&mut self, heap: Global, line: &str) -> Result<(), AllocError> {
+    pub(crate) fn note(&mut self, line: &str) -> Result<(), AllocError> {
         let text = line.trim();
         self.lines = self.lines.saturating_add(1);
         if text.is_empty() {
             return Ok(());
         }
-        match read_text(heap, text)? {
-            Ok(recipe) => self.add(heap, text, &recipe),
-            Err(error) => self
-                .refused
-                .push_str(format!(in heap; "{text}: {error}\n")?.as_str()),
+        match read_text(self.heap, text)? {
+            Ok(recipe) => self.add(text, &recipe),
+            Err(error) => writeln!(self.refused, "{text}: {error}"),
         }
     }
 
     /// The table: accepted recipes by reach and then bytes, then the refused ones as they came.
-    pub(crate) fn table(&mut self, heap: Global) -> Result<String, AllocError> {
+    pub(crate) fn table(&mut self) -> Result<String, AllocError> {
         self.rows.sort()?;
-        let mut out = String::from_str(heap, "reach  bytes   bits  cells  recipe\n")?;
-        for row in self.rows.iter() {
-            out.push_str(format!(in heap; "{row}\n")?.as_str())?;
+        let mut out = String::from_str(self.heap, "reach  bytes   bits  cells  recipe\n")?;
+        for row in &self.rows {
+            writeln!(out, "{row}")?;
         }
         out.push_str(self.refused.as_str())?;
         Ok(out)

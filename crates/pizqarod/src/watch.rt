@@ -1,4 +1,5 @@
-// The stages of a word's correction one by one, for somebody to watch. The answer is the pile's own call, and not this.
+// The stages of a word's correction one by one, for somebody to watch. The way that a pile takes through them stands here a second time,
+// since a pile lends no room for what each stage makes of a word. The answer stays the pile's own call.
 
 use crate::cells::Word;
 use crate::failure::Failure;
@@ -100,13 +101,14 @@ impl<'a> Watch<'a> {
         for (j, (cells, marks)) in columns.zip(self.word.marks.chunks(breadth)).enumerate() {
             let labels = self.labels(j)?;
             let estimate = chain.estimate(stage, labels.as_slice(), cells, marks)?;
-            estimates.push(estimate).map_err(AllocError::from)?;
+            estimates.push(estimate)?;
         }
         Ok(estimates)
     }
 
-    /// The next stage, by its number and its code; its choice is kept for the stages after it.
-    pub(crate) fn next(&mut self, stage: usize, code: &StageCode) -> Result<Watched, Failure> {
+    /// The next stage, by its code; its choice is kept for the stages after it.
+    pub(crate) fn next(&mut self, code: &StageCode) -> Result<Watched, Failure> {
+        let stage = self.chosen.len().saturating_add(1);
         let inner = self.parts.chain.distance(stage)?;
         let estimates = self.estimates(stage)?;
         let mut word = vec![in self.heap; 0; code.len()]?;
@@ -115,7 +117,7 @@ impl<'a> Watch<'a> {
             None => None,
             Some(score) => {
                 let kept = Vec::from_slice(self.heap, word.as_slice())?;
-                self.chosen.push(kept).map_err(AllocError::from)?;
+                self.chosen.push(kept)?;
                 Some(Choice { word, score })
             }
         };

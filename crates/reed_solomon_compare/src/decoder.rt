@@ -30,13 +30,18 @@ fn push_powers(
     Ok(())
 }
 
-/// Moves the first row that is not zero in a column to the front. Answers whether there is one.
-fn find_pivot(rows: &mut [Vec<u8>], column: usize) -> bool {
-    let Some(first) = rows.iter().position(|row| cell(row, column) != 0) else {
-        return false;
-    };
+/// Moves the first row that is not zero in a column to the front, if there is one, and parts it from the others.
+fn part_pivot(rows: &mut [Vec<u8>], column: usize) -> Option<(&mut Vec<u8>, &mut [Vec<u8>])> {
+    let first = rows.iter().position(|row| cell(row, column) != 0)?;
     rows.swap(0, first);
-    true
+    rows.split_first_mut()
+}
+
+/// Multiplies a row by a factor.
+fn scale(products: &Products, row: &mut [u8], factor: u8) {
+    for x in row {
+        *x = products.times(factor, *x);
+    }
 }
 
 /// Makes a row zero in a column, by a multiple of the pivot, which is one there.
@@ -58,39 +63,20 @@ impl Matrix {
     }
 
     /// Makes a column one in its own row and zero in the others, if a row is left for it.
-    fn reduce(&mut self, products: &Products, column: usize) -> bool {
-        let Some((above, rest)) = self.rows.split_at_mut_checked(column) else {
-            return false;
-        };
-        if !find_pivot(rest, column) {
-            return false;
-        }
-        let Some((pivot, below)) = rest.split_first_mut() else {
-            return false;
-        };
-        let Some(factor) = products.inverse(cell(pivot, column)) else {
-            return false;
-        };
-        for x in pivot.iter_mut() {
-            *x = products.times(factor, *x);
-        }
-        for row in above.iter_mut() {
+    fn reduce(&mut self, products: &Products, column: usize) -> Option<()> {
+        let (above, rest) = self.rows.split_at_mut_checked(column)?;
+        let (pivot, below) = part_pivot(rest, column)?;
+        let factor = products.inverse(cell(pivot, column))?;
+        scale(products, pivot, factor);
+        for row in above.iter_mut().chain(below) {
             clear(products, row, pivot, column);
         }
-        for row in below.iter_mut() {
-            clear(products, row, pivot, column);
-        }
-        true
+        Some(())
     }
 
     /// The first column that depends on those before it.
     fn first_dependent(&mut self, products: &Products) -> Option<usize> {
-        for column in 0..self.columns {
-            if !self.reduce(products, column) {
-                return Some(column);
-            }
-        }
-        None
+        (0..self.columns).find(|column| self.reduce(products, *column).is_none())
     }
 
     /// Coefficients, not all zero, of a sum of columns that is zero, if there is such a sum.

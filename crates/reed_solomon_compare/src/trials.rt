@@ -89,11 +89,7 @@ impl Draw {
 
     /// A message of k symbols at random.
     pub fn message(&mut self, alloc: Global, size: usize, k: usize) -> Result<Vec<u8>, AllocError> {
-        let mut message = Vec::with_capacity(alloc, k)?;
-        for _ in 0..k {
-            message.push(self.symbol(size))?;
-        }
-        Ok(message)
+        (0..k).map(|_| self.symbol(size)).collect(alloc)
     }
 
     /// Makes places of a codeword blank and wrong, all choices alike.
