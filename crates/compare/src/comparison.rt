@@ -1,0 +1,198 @@
+// The calls of a pile beside the answers of the other decoder.
+use crate::decoder::Decoder;
+use crate::draws::Drawn;
+use crate::failure::Failure;
+use crate::nesting::nest;
+use crate::random::Random;
+use crate::reading::{Answer, Reading};
+use crate::tally::Tally;
+use crate::text::{Cells, Hex};
+use crate::trials::{Trial, draw_bits};
+use codes::code::Code;
+use recipe_piles::making::pile_of;
+use std::alloc::{AllocError, Global};
+use words::fault::{Fault, Kind};
+
+/// A pile with its decoder, and what came of its words.
+#[derive(Drop)]
+pub(crate) struct Comparison<'a> {
+    pub(crate) heap: Global,
+    pub(crate) drawn: &'a Drawn,
+    pub(crate) decoder: Decoder,
+    pub(crate) tally: &'a mut Tally,
+}
+
+/// An answer, absent where the refusal is that there is no codeword; any other refusal passes up.
+fn answered<T: Drop>(res: Result<T, Fault>) -> Result<Option<T>, Fault> {
+    match res {
+        Ok(answer) => Ok(Some(answer)),
+        Err(fault) if fault.kind == Kind::NoCodeword => Ok(None),
+        Err(fault) => Err(fault),
+    }
+}
+
+fn tell_answer(heap: Global, answer: Option<&Answer>) -> Result<String, AllocError> {
+    let Some(
+        Answer {
+            harm,
+            word,
+            message,
+        },
+    ) = answer
+    else {
+        return String::from_str(heap, "refused");
+    };
+    let word = Cells::readable(word.as_slice());
+    let message = Cells::readable(message.as_slice());
+    format!(in heap; "harm {harm}, codeword {word}, message {message}")
+}
+
+impl Comparison<'_> {
+    /// That the two differ at a word, with all that is known of it.
+    fn differ(
+        &self,
+        call: &str,
+        word: Cells<'_>,
+        library: Option<&Answer>,
+        other: Option<&Answer>,
+    ) -> Result<(), Failure> {
+        let heap = self.heap;
+        let recipe = Hex(self.drawn.bytes.as_slice());
+        let library = tell_answer(heap, library)?;
+        let other = tell_answer(heap, other)?;
+        Err(Failure::Differs(format!(in heap;
+            "{call}, recipe {recipe}, word {word}\nlibrary: {library}\nother decoder: {other}"
+        )?))
+    }
+
+    /// The codeword of a message by the library, which is to be the other encoder's.
+    fn encode<C: Code>(&self, code: &C, message: &[u8]) -> Result<Vec<u8>, Failure> {
+        let plan = &self.drawn.plan;
+        let mut word = vec![in self.heap; 0; plan.cells()]?;
+        code.encode(message, &mut word)?;
+        let other = plan.encode(self.heap, message)?;
+        if word != other {
+            let word = Cells::readable(word.as_slice());
+            self.differ("encode", word, None, None)?;
+        }
+        Ok(word)
+    }
+
+    /// What the library recovers from a word that may be no codeword, with the word and no harm. A refusal is to leave the room for the
+    /// message as it was.
+    fn recover<C: Code>(&self, code: &C, word: &[u8]) -> Result<Option<Answer>, Failure> {
+        let mut message = vec![in self.heap; 7; self.drawn.plan.message_bits()]?;
+        let answer = answered(code.message_of(word, &mut message))?;
+        if answer.is_none() && message.iter().any(|bit| *bit != 7) {
+            let word = Cells::readable(word);
+            self.differ("message-of, which wrote", word, None, None)?;
+        }
+        let word = Vec::from_slice(self.heap, word)?;
+        Ok(answer.map(|()| Answer {
+            harm: 0,
+            word,
+            message,
+        }))
+    }
+
+    /// What the library corrects a word to, with the message of that. A refusal is to leave the word as it was.
+    fn correct<C: Code>(
+        &self,
+        code: &C,
+        word: &[u8],
+        marks: &[u8],
+    ) -> Result<Option<Answer>, Failure> {
+        let mut room = Vec::from_slice(self.heap, word)?;
+        let Some(harm) = answered(code.correct(&mut room, marks))? else {
+            if room.as_slice() != word {
+                let word = Cells { cells: word, marks };
+                self.differ("correct, which wrote", word, None, None)?;
+            }
+            return Ok(None);
+        };
+        let recovered = self.recover(code, room.as_slice())?;
+        Ok(recovered.map(|answer| Answer { harm, ..answer }))
+    }
+
+    /// Has both correct a word, and recover the message of its cells as they are.
+    fn compare<C: Code>(&mut self, code: &C, word: &[u8], marks: &[u8]) -> Result<(), Failure> {
+        let heap = self.heap;
+        let library = self.correct(code, word, marks)?;
+        let reading = Reading::new(heap, word, marks)?;
+        let reach = self.drawn.plan.reach();
+        let other = self.decoder.nearest(heap, &reading, reach)?;
+        if library != other {
+            let word = Cells { cells: word, marks };
+            self.differ("correct", word, library.as_ref(), other.as_ref())?;
+        }
+        self.tally.note_correct(library.as_ref(), other.as_ref());
+        let clear = vec![in heap; 0; word.len()]?;
+        let library = self.recover(code, word)?;
+        let reading = Reading::new(heap, word, clear.as_slice())?;
+        let other = self.decoder.nearest(heap, &reading, 1)?;
+        if library != other {
+            let word = Cells::readable(word);
+            self.differ("message-of", word, library.as_ref(), other.as_ref())?;
+        }
+        self.tally.note_message_of(library.as_ref(), other.as_ref());
+        Ok(())
+    }
+
+    /// Draws the word of a turn and compares what both make of it.
+    fn turn<C: Code>(
+        &mut self,
+        code: &C,
+        random: &mut Random,
+        fewest: usize,
+        turn: usize,
+    ) -> Result<(), Failure> {
+        let heap = self.heap;
+        let plan = &self.drawn.plan;
+        let trial = Trial::new(random, plan.cells(), plan.reach(), fewest, turn);
+        let mut word = if trial.stray {
+            draw_bits(heap, random, plan.cells())?
+        } else {
+            let message = draw_bits(heap, random, plan.message_bits())?;
+            self.encode(code, message.as_slice())?
+        };
+        let mut marks = vec![in heap; 0; word.len()]?;
+        trial.spoil(random, &mut word, &mut marks);
+        self.tally.note_word(word.as_slice(), marks.as_slice());
+        self.compare(code, word.as_slice(), marks.as_slice())
+    }
+
+    /// Compares so many words of the library's pile.
+    fn run<C: Code>(&mut self, code: &C, random: &mut Random, words: usize) -> Result<(), Failure> {
+        let plan = &self.drawn.plan;
+        let same = code.len() == plan.cells()
+            && code.message_len() == plan.message_bits()
+            && code.distance() == plan.reach();
+        if !same {
+            self.differ("numbers of the pile", Cells::readable(&[]), None, None)?;
+        }
+        self.tally.note_recipe(self.drawn.bytes.as_slice());
+        let fewest = self.decoder.fewest_blanks(plan);
+        for turn in 0..words {
+            self.turn(code, random, fewest, turn)?;
+        }
+        Ok(())
+    }
+
+    /// Makes the library's pile of the recipes, and compares so many of its words.
+    pub(crate) fn run_drawn(&mut self, random: &mut Random, words: usize) -> Result<(), Failure> {
+        let heap = self.heap;
+        let drawn = self.drawn;
+        match drawn.recipes.as_slice() {
+            [recipe] => self.run(&pile_of(recipe)?, random, words),
+            [inner, outer] => {
+                let pile = nest(heap, outer, pile_of(inner)?)?;
+                self.run(&pile, random, words)
+            }
+            [inner, middle, outer] => {
+                let pile = nest(heap, outer, nest(heap, middle, pile_of(inner)?)?)?;
+                self.run(&pile, random, words)
+            }
+            _ => Err(Failure::NoRecipe),
+        }
+    }
+}
