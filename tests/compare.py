@@ -3,15 +3,19 @@
 by the least harm over all codewords where messages are few, and else by the syndromes of the cells, with the last wrong cell looked up.
 
   python3 tests/compare.py | diff - crates/compare/stdout
+
+As that, it takes a seed and a count of words for each recipe.
 """
+import sys
 from itertools import combinations
 from math import comb
 
-SEED, WORDS, FEW_BITS, HELD_BITS, MOST_SETS = 20_000, 100, 11, 6, 50_000
+SEED, WORDS = [int(word) for word in sys.argv[1:]] + [20_000, 100][len(sys.argv) - 1:]
+FEW_BITS, HELD_BITS, MOST_SETS = 11, 6, 50_000
 MASK = (1 << 64) - 1
 MODULI = [None, 0x3, 0x7, 0xB, 0x13, 0x25, 0x43, 0x89, 0x11D]
 CONSTANTS = {2: 1, 4: 2, 6: 1, 8: 8}
-CHAINS = [0x11, 0x12, 0x13, 0x14, 0x22, 0x23, 0x24, 0x25, 0x26, 0x27, 0x28, 0x29]
+CHAINS = [0x11, 0x12, 0x13, 0x22, 0x23, 0x24, 0x25, 0x26, 0x27, 0x28, 0x29, 0x14]
 TEXTS = {
     4: "no columns, or more than 4096 cells",
     6: "message length or columns do not fit the kind of code",
@@ -266,9 +270,9 @@ class Drawer:
     def __init__(self, random):
         self.random, self.accepted, self.refused = random, 0, 0
 
-    def recipe(self, most_cells, columns, most_symbols):
+    def recipe(self, byte, most_cells, columns, most_symbols):
         below = self.random.below
-        byte = CHAINS[below(12)]
+        byte = byte or CHAINS[below(12)]
         n, stages = chain(byte)
         if columns is None:
             most = most_cells // n
@@ -290,14 +294,14 @@ class Drawer:
         self.accepted += 1
         return pile
 
-    def pile(self, depth, most_cells, most_symbols):
-        """The bytes and the pile of recipes one in the other, or None."""
-        data = self.recipe(most_cells, None, most_symbols)
+    def pile(self, depth, byte, most_cells, most_symbols):
+        """The bytes and the pile of recipes one in the other, the last with a chain byte, or None."""
+        data = self.recipe(byte if depth == 1 else None, most_cells, None, most_symbols)
         pile = self.read(data)
-        for _ in range(1, depth):
+        for level in range(1, depth):
             if pile is None or pile.bits > HELD_BITS:
                 return None
-            more = self.recipe(most_cells, pile.cells, most_symbols)
+            more = self.recipe(byte if level + 1 == depth else None, most_cells, pile.cells, most_symbols)
             data, pile = data + more, self.read(more, pile)
         return pile and (data, pile)
 
@@ -372,15 +376,22 @@ class Tally:
                 print(f"  {call}, {side}: {accepted} accepted, {refused} refused")
 
 
+def wanted(name, turn):
+    """The chain byte or None, the least reach, the most cells and the most symbols of a message."""
+    if name == "exhaustive":
+        return CHAINS[turn % 11], 1 << turn // 11 % 4, 4096 if turn // 11 == 7 else 256, 2
+    if name == "elimination":
+        return (CHAINS[turn % 12], turn // 12 % 2 + 1, 256, 256) if turn < 48 else (None, 4 << turn % 3, 256, 256)
+    return CHAINS[turn % 11] if name == "nested" else None, turn % 4 + 1, 12, 2
+
+
 def compare(random, drawer, name, turns, depth):
     tally = Tally()
     for turn in range(turns):
-        most_cells = 12 if depth > 1 else 4096 if name == "exhaustive" and turn % 8 == 7 else 256
-        least = turn % 4 + 1 if depth > 1 else 1 << turn % 4
-        while True:
-            drawn = drawer.pile(depth, most_cells, 256 if name == "elimination" else 2)
-            if drawn and (drawn[1].bits <= FEW_BITS) == (name != "elimination") and drawn[1].reach >= least:
-                break
+        byte, reach, most_cells, most_symbols = wanted(name, turn)
+        drawn = None
+        while not drawn or (drawn[1].bits <= FEW_BITS) != (name != "elimination") or drawn[1].reach < reach:
+            drawn = drawer.pile(depth, byte, most_cells, most_symbols)
         data, pile = drawn
         tally.recipes += 1
         tally.note(data)
@@ -431,9 +442,9 @@ def main():
     print(bound("Reed-Solomon at width 3, N = 9", "130009020001010005010007000009"))
     random = Random(SEED)
     drawer = Drawer(random)
-    compare(random, drawer, "exhaustive", 120, 1)
-    compare(random, drawer, "elimination", 100, 1)
-    compare(random, drawer, "nested", 16, 2)
+    compare(random, drawer, "exhaustive", 132, 1)
+    compare(random, drawer, "elimination", 96, 1)
+    compare(random, drawer, "nested", 22, 2)
     compare(random, drawer, "nested twice", 8, 3)
     print(f"recipes drawn: {drawer.accepted} accepted and {drawer.refused} refused by both readers")
     print("no difference")

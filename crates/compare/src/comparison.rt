@@ -11,7 +11,7 @@ use crate::trials::{Trial, draw_bits};
 use codes::code::Code;
 use recipe_piles::making::pile_of;
 use std::alloc::{AllocError, Global};
-use words::fault::{Fault, Kind};
+use words::fault::{Fault, Kind, Layer};
 
 /// A pile with its decoder, and what came of its words.
 #[derive(Drop)]
@@ -22,11 +22,14 @@ pub(crate) struct Comparison<'a> {
     pub(crate) tally: &'a mut Tally,
 }
 
-/// An answer, absent where the refusal is that there is no codeword; any other refusal passes up.
-fn answered<T: Drop>(res: Result<T, Fault>) -> Result<Option<T>, Fault> {
+/// An answer, absent where the refusal is that there is no codeword, at one of so many stages or at 0; any other refusal passes up.
+fn answered<T: Drop>(res: Result<T, Fault>, stages: usize) -> Result<Option<T>, Fault> {
     match res {
         Ok(answer) => Ok(Some(answer)),
-        Err(fault) if fault.kind == Kind::NoCodeword => Ok(None),
+        Err(fault)
+            if fault.kind == Kind::NoCodeword
+                && fault.layer == Layer::Code
+                && fault.place <= stages => { Ok(None) }
         Err(fault) => Err(fault),
     }
 }
@@ -82,7 +85,7 @@ impl Comparison<'_> {
     /// message as it was.
     fn recover<C: Code>(&self, code: &C, word: &[u8]) -> Result<Option<Answer>, Failure> {
         let mut message = vec![in self.heap; 7; self.drawn.plan.message_bits()]?;
-        let answer = answered(code.message_of(word, &mut message))?;
+        let answer = answered(code.message_of(word, &mut message), 0)?;
         if answer.is_none() && message.iter().any(|bit| *bit != 7) {
             let word = Cells::readable(word);
             self.differ("message-of, which wrote", word, None, None)?;
@@ -103,7 +106,8 @@ impl Comparison<'_> {
         marks: &[u8],
     ) -> Result<Option<Answer>, Failure> {
         let mut room = Vec::from_slice(self.heap, word)?;
-        let Some(harm) = answered(code.correct(&mut room, marks))? else {
+        let stages = self.drawn.plan.stages();
+        let Some(harm) = answered(code.correct(&mut room, marks), stages)? else {
             if room.as_slice() != word {
                 let word = Cells { cells: word, marks };
                 self.differ("correct, which wrote", word, None, None)?;

@@ -9,8 +9,9 @@ use recipes::recipe::Recipe;
 use std::alloc::{AllocError, Global};
 use std::fmt;
 
+/// The bytes of the chains. The last is never one of few messages, since its stages take at least 16 bits.
 const CHAINS: [u8; 12] = [
-    0x11, 0x12, 0x13, 0x14, 0x22, 0x23, 0x24, 0x25, 0x26, 0x27, 0x28, 0x29,
+    0x11, 0x12, 0x13, 0x22, 0x23, 0x24, 0x25, 0x26, 0x27, 0x28, 0x29, 0x14,
 ];
 
 /// How often a recipe is drawn anew until one is as it is wanted.
@@ -43,8 +44,13 @@ pub(crate) struct Drawn {
 /// The bounds of a recipe's numbers.
 #[derive(Clone, Copy)]
 struct Shape {
-    most_cells: usize,
+    /// The chain's byte, if it is given.
+    chain: Option<u8>,
+    /// The number of columns, if it is given.
     columns: Option<usize>,
+    /// The most cells, if it is not.
+    most_cells: usize,
+    /// The most symbols of a Reed-Solomon code's message.
     most_symbols: usize,
 }
 
@@ -63,9 +69,9 @@ impl Decision {
     /// How many recipes are drawn.
     pub(crate) fn turns(self) -> usize {
         match self {
-            Decision::Exhaustive => 120,
-            Decision::Elimination => 100,
-            Decision::Nested => 16,
+            Decision::Exhaustive => 132,
+            Decision::Elimination => 96,
+            Decision::Nested => 22,
             Decision::NestedTwice => 8,
         }
     }
@@ -79,17 +85,40 @@ impl Decision {
         }
     }
 
-    /// The bounds of the innermost recipe. Each eighth that is decided by all messages may be as long as there are.
-    fn shape(self, turn: usize) -> Shape {
+    /// The byte of the outermost recipe's chain, in turn, or none where it is drawn: where a large reach or two piles inside leave only some
+    /// chains.
+    fn chain(self, turn: usize) -> Option<u8> {
+        match self {
+            Decision::Exhaustive | Decision::Nested => CHAINS.get(turn % 11).copied(),
+            Decision::Elimination if turn < 48 => CHAINS.get(turn % 12).copied(),
+            Decision::Elimination | Decision::NestedTwice => None,
+        }
+    }
+
+    /// The least reach that is wanted.
+    fn reach(self, turn: usize) -> usize {
+        match self {
+            Decision::Exhaustive => 1 << (turn / 11 % 4),
+            Decision::Elimination if turn < 48 => turn / 12 % 2 + 1,
+            Decision::Elimination => 4 << (turn % 3),
+            Decision::Nested | Decision::NestedTwice => turn % 4 + 1,
+        }
+    }
+
+    /// The bounds of the recipe that stands at a depth from 0, the innermost. Of each chain one recipe of few messages may have as many cells as
+    /// there can be.
+    fn shape(self, turn: usize, depth: usize) -> Shape {
         let (most_cells, most_symbols) = match self {
-            Decision::Exhaustive if turn % 8 == 7 => (4096, 2),
+            Decision::Exhaustive if turn / 11 == 7 => (4096, 2),
             Decision::Exhaustive => (256, 2),
             Decision::Elimination => (256, 256),
             Decision::Nested | Decision::NestedTwice => (12, 2),
         };
+        let outermost = depth.saturating_add(1) == self.depth();
         Shape {
-            most_cells,
+            chain: if outermost { self.chain(turn) } else { None },
             columns: None,
+            most_cells,
             most_symbols,
         }
     }
@@ -97,11 +126,7 @@ impl Decision {
     /// Whether a plan can be decided so, and has the reach that is wanted in a turn.
     fn wants(self, turn: usize, plan: &Plan) -> bool {
         let few = plan.message_bits() <= FEW_BITS;
-        let least = match self {
-            Decision::Exhaustive | Decision::Elimination => 1 << (turn % 4),
-            Decision::Nested | Decision::NestedTwice => turn % 4 + 1,
-        };
-        few == (self != Decision::Elimination) && plan.reach() >= least
+        few == (self != Decision::Elimination) && plan.reach() >= self.reach(turn)
     }
 }
 
@@ -120,7 +145,10 @@ fn draw_columns(random: &mut Random, most: usize) -> usize {
 
 /// The bytes of a recipe, which is refused where a kind or a message length does not fit.
 fn draw_bytes(heap: Global, random: &mut Random, shape: Shape) -> Result<Vec<u8>, AllocError> {
-    let byte = CHAINS.get(random.below(12)).copied().unwrap_or(0);
+    let byte = match shape.chain {
+        Some(byte) => byte,
+        None => CHAINS.get(random.below(12)).copied().unwrap_or(0),
+    };
     let (cells, stages) = match Chain::named(byte) {
         Some(chain) => (chain.cells(), chain.stages()),
         None => (1, 0),
@@ -180,18 +208,18 @@ fn draw_once(
     decision: Decision,
     turn: usize,
 ) -> Result<Option<Drawn>, Failure> {
-    let shape = decision.shape(turn);
+    let shape = decision.shape(turn, 0);
     let Some(level) = readings.read(heap, draw_bytes(heap, random, shape)?)? else {
         return Ok(None);
     };
     let mut drawn = Drawn::new(heap, level)?;
-    for _ in 1..decision.depth() {
+    for depth in 1..decision.depth() {
         if drawn.plan.message_bits() > HELD_BITS {
             return Ok(None);
         }
         let shape = Shape {
             columns: Some(drawn.plan.cells()),
-            ..shape
+            ..decision.shape(turn, depth)
         };
         let Some(level) = readings.read(heap, draw_bytes(heap, random, shape)?)? else {
             return Ok(None);

@@ -58,6 +58,21 @@ fn even_at(n: u32, labels: &[u8], p: u32) -> u8 {
     u8::from(sum) ^ (others % 2) as u8
 }
 
+fn push_reed_muller(r: u32, labels: &[u8], cells: &mut Vec<u8>) -> Result<(), AllocError> {
+    let products = products(r, labels);
+    for p in 0..1 << r.min(4) {
+        cells.push(sum_at(products, p))?;
+    }
+    Ok(())
+}
+
+fn push_even(n: u32, labels: &[u8], cells: &mut Vec<u8>) -> Result<(), AllocError> {
+    for p in 0..n {
+        cells.push(even_at(n, labels, p))?;
+    }
+    Ok(())
+}
+
 impl Chain {
     pub(crate) fn named(byte: u8) -> Option<Chain> {
         match byte {
@@ -109,19 +124,9 @@ impl Chain {
     /// Puts the cells of a row of labels behind others.
     pub(crate) fn push_cells(self, labels: &[u8], cells: &mut Vec<u8>) -> Result<(), AllocError> {
         match self {
-            Chain::ReedMuller(r) => {
-                let products = products(r, labels);
-                for p in 0..1 << r.min(4) {
-                    cells.push(sum_at(products, p))?;
-                }
-            }
-            Chain::Even(n) => {
-                for p in 0..n {
-                    cells.push(even_at(n, labels, p))?;
-                }
-            }
+            Chain::ReedMuller(r) => push_reed_muller(r, labels, cells),
+            Chain::Even(n) => push_even(n, labels, cells),
         }
-        Ok(())
     }
 }
 

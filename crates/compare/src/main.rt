@@ -1,5 +1,5 @@
-// Compares what the library makes of words at random with what another decoder makes of them, which shares no code with it: it reads
-// the recipe's bytes, encodes and decides by means of its own. The modules from plan down to bits are that decoder.
+// Compares what the library makes of words at random with what another decoder makes of them. That one (`decoder`, and what it uses)
+// shares no code with the library: it reads the recipe's bytes, encodes and decides by means of its own.
 #![tactic(auto)]
 
 mod bits;
@@ -30,6 +30,7 @@ use crate::failure::Failure;
 use crate::random::Random;
 use crate::readings::Readings;
 use crate::tally::Tally;
+use crate::worked::{tell_bounds, tell_wears};
 use anyhow::anyhow;
 use std::alloc::Global;
 use std::env;
@@ -99,7 +100,8 @@ fn main(rt: HostRuntime) -> anyhow::Result<()> {
     let Some(Order { seed, words }) = Order::parse(arguments.as_slice()) else {
         return Err(anyhow!("a seed and a count of words, or nothing"));
     };
-    rt.print(worked::tell(heap)?.as_str())?;
+    rt.print(tell_wears(heap)?.as_str())?;
+    rt.print(tell_bounds(heap)?.as_str())?;
     let mut random = Random(seed);
     let mut readings = Readings::default();
     for decision in DECISIONS {

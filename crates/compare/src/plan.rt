@@ -116,6 +116,10 @@ impl Plan {
         Ok(Outer::listed(self.message_bits(), self.reach(), self.codewords(heap)?))
     }
 
+    pub(crate) fn stages(&self) -> usize {
+        self.codes.len()
+    }
+
     pub(crate) fn cells(&self) -> usize {
         self.columns.saturating_mul(self.chain.cells())
     }

@@ -86,24 +86,28 @@ struct Read {
 }
 
 /// Writes a page of zeros, wears it and reads it.
-fn read_worn(heap: Global, pile: RecipePile, states: &[u8; 8]) -> Result<Read, Failure> {
-    let mut calls = vec![in heap;
-        Call::Write {
-            page: 0,
-            payload: &[0; 5]
-        },
-    ]?;
+fn calls_of(heap: Global, states: &[u8; 8]) -> Result<Vec<Call<'static>>, Failure> {
+    let write = Call::Write {
+        page: 0,
+        payload: &[0; 5],
+    };
+    let mut calls = vec![in heap; write]?;
     for (j, state) in states.iter().enumerate() {
         if *state != 0 {
-            let (cell, state) = (9 * j, *state);
             calls.push(Call::Wear {
                 page: 0,
-                cell,
-                state,
+                cell: 9 * j,
+                state: *state,
             })?;
         }
     }
     calls.push(Call::Read { page: 0 })?;
+    Ok(calls)
+}
+
+/// Makes these calls on a packed page, and answers as the last of them.
+fn read_worn(heap: Global, pile: RecipePile, states: &[u8; 8]) -> Result<Read, Failure> {
+    let calls = calls_of(heap, states)?;
     let mut bytes = [0; 16];
     let mut medium = Packed {
         bytes: &mut bytes,
@@ -161,14 +165,20 @@ fn tell_bound(heap: Global, bound: &Bound) -> Result<String, Failure> {
     }
 }
 
-/// The lines of all examples.
-pub(crate) fn tell(heap: Global) -> Result<String, Failure> {
+/// The lines of the page's examples.
+pub(crate) fn tell_wears(heap: Global) -> Result<String, Failure> {
     let pile = pile_of(&Recipe::read(&PAGE)?)?;
     let mut text = String::new(heap);
     for wear in &WEARS {
         let line = tell_wear(heap, pile, wear)?;
         writeln!(text, "{line}")?;
     }
+    Ok(text)
+}
+
+/// The lines of the bounds' examples.
+pub(crate) fn tell_bounds(heap: Global) -> Result<String, Failure> {
+    let mut text = String::new(heap);
     for bound in &BOUNDS {
         let line = tell_bound(heap, bound)?;
         writeln!(text, "{line}")?;
