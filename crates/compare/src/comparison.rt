@@ -6,12 +6,24 @@ use crate::nesting::nest;
 use crate::random::Random;
 use crate::reading::{Answer, Reading};
 use crate::tally::Tally;
-use crate::text::{Cells, Hex};
+use crate::text::{Cells, Hex, Told};
 use crate::trials::{Trial, draw_bits};
 use codes::code::Code;
 use recipe_piles::making::pile_of;
-use std::alloc::{AllocError, Global};
+use std::alloc::Global;
+use std::fmt;
 use words::fault::{Fault, Kind, Layer};
+
+/// What a refusal leaves.
+const UNCHANGED: &str = "refused, which changes nothing";
+
+/// The numbers of a pile.
+#[derive(Clone, Copy, PartialEq, Eq)]
+struct Numbers {
+    cells: usize,
+    message_bits: usize,
+    reach: usize,
+}
 
 /// A pile with its decoder, and what came of its words.
 #[derive(Drop)]
@@ -34,37 +46,32 @@ fn answered<T: Drop>(res: Result<T, Fault>, stages: usize) -> Result<Option<T>, 
     }
 }
 
-fn tell_answer(heap: Global, answer: Option<&Answer>) -> Result<String, AllocError> {
-    let Some(
-        Answer {
-            harm,
-            word,
-            message,
-        },
-    ) = answer
-    else {
-        return String::from_str(heap, "refused");
-    };
-    let word = Cells::readable(word.as_slice());
-    let message = Cells::readable(message.as_slice());
-    format!(in heap; "harm {harm}, codeword {word}, message {message}")
+impl fmt::Display for Numbers {
+    fn fmt<W: fmt::Write>(&self, f: &mut fmt::Formatter<W>) -> fmt::Result {
+        let Numbers {
+            cells,
+            message_bits,
+            reach,
+        } = *self;
+        write!(
+            f,
+            "{cells} cells, {message_bits} message bits, reach {reach}"
+        )
+    }
 }
 
 impl Comparison<'_> {
-    /// That the two differ at a word, with all that is known of it.
-    fn differ(
+    /// That the two differ in a call, which is given some cells.
+    fn differ<L: fmt::Display, O: fmt::Display>(
         &self,
         call: &str,
-        word: Cells<'_>,
-        library: Option<&Answer>,
-        other: Option<&Answer>,
+        given: Cells<'_>,
+        library: &L,
+        other: &O,
     ) -> Result<(), Failure> {
-        let heap = self.heap;
         let recipe = Hex(self.drawn.bytes.as_slice());
-        let library = tell_answer(heap, library)?;
-        let other = tell_answer(heap, other)?;
-        Err(Failure::Differs(format!(in heap;
-            "{call}, recipe {recipe}, word {word}\nlibrary: {library}\nother decoder: {other}"
+        Err(Failure::Differs(format!(in self.heap;
+            "{call} under {recipe} of {given}\nlibrary: {library}\nother decoder: {other}"
         )?))
     }
 
@@ -75,8 +82,12 @@ impl Comparison<'_> {
         code.encode(message, &mut word)?;
         let other = plan.encode(self.heap, message)?;
         if word != other {
-            let word = Cells::readable(word.as_slice());
-            self.differ("encode", word, None, None)?;
+            self.differ(
+                "encode",
+                Cells::readable(message),
+                &Cells::readable(word.as_slice()),
+                &Cells::readable(other.as_slice()),
+            )?;
         }
         Ok(word)
     }
@@ -87,8 +98,8 @@ impl Comparison<'_> {
         let mut message = vec![in self.heap; 7; self.drawn.plan.message_bits()]?;
         let answer = answered(code.message_of(word, &mut message), 0)?;
         if answer.is_none() && message.iter().any(|bit| *bit != 7) {
-            let word = Cells::readable(word);
-            self.differ("message-of, which wrote", word, None, None)?;
+            let wrote = Cells::readable(message.as_slice());
+            self.differ("message-of", Cells::readable(word), &wrote, &UNCHANGED)?;
         }
         let word = Vec::from_slice(self.heap, word)?;
         Ok(answer.map(|()| Answer {
@@ -109,8 +120,8 @@ impl Comparison<'_> {
         let stages = self.drawn.plan.stages();
         let Some(harm) = answered(code.correct(&mut room, marks), stages)? else {
             if room.as_slice() != word {
-                let word = Cells { cells: word, marks };
-                self.differ("correct, which wrote", word, None, None)?;
+                let wrote = Cells::readable(room.as_slice());
+                self.differ("correct", Cells { cells: word, marks }, &wrote, &UNCHANGED)?;
             }
             return Ok(None);
         };
@@ -127,7 +138,12 @@ impl Comparison<'_> {
         let other = self.decoder.nearest(heap, &reading, reach)?;
         if library != other {
             let word = Cells { cells: word, marks };
-            self.differ("correct", word, library.as_ref(), other.as_ref())?;
+            self.differ(
+                "correct",
+                word,
+                &Told(library.as_ref()),
+                &Told(other.as_ref()),
+            )?;
         }
         self.tally.note_correct(library.as_ref(), other.as_ref());
         let clear = vec![in heap; 0; word.len()]?;
@@ -136,7 +152,12 @@ impl Comparison<'_> {
         let other = self.decoder.nearest(heap, &reading, 1)?;
         if library != other {
             let word = Cells::readable(word);
-            self.differ("message-of", word, library.as_ref(), other.as_ref())?;
+            self.differ(
+                "message-of",
+                word,
+                &Told(library.as_ref()),
+                &Told(other.as_ref()),
+            )?;
         }
         self.tally.note_message_of(library.as_ref(), other.as_ref());
         Ok(())
@@ -165,17 +186,30 @@ impl Comparison<'_> {
         self.compare(code, word.as_slice(), marks.as_slice())
     }
 
+    /// Compares the numbers of the library's pile with the plan's.
+    fn compare_numbers<C: Code>(&self, code: &C) -> Result<(), Failure> {
+        let library = Numbers {
+            cells: code.len(),
+            message_bits: code.message_len(),
+            reach: code.distance(),
+        };
+        let plan = &self.drawn.plan;
+        let other = Numbers {
+            cells: plan.cells(),
+            message_bits: plan.message_bits(),
+            reach: plan.reach(),
+        };
+        if library == other {
+            return Ok(());
+        }
+        self.differ("the pile", Cells::readable(&[]), &library, &other)
+    }
+
     /// Compares so many words of the library's pile.
     fn run<C: Code>(&mut self, code: &C, random: &mut Random, words: usize) -> Result<(), Failure> {
-        let plan = &self.drawn.plan;
-        let same = code.len() == plan.cells()
-            && code.message_len() == plan.message_bits()
-            && code.distance() == plan.reach();
-        if !same {
-            self.differ("numbers of the pile", Cells::readable(&[]), None, None)?;
-        }
+        self.compare_numbers(code)?;
         self.tally.note_recipe(self.drawn.bytes.as_slice());
-        let fewest = self.decoder.fewest_blanks(plan);
+        let fewest = self.decoder.fewest_blanks(&self.drawn.plan);
         for turn in 0..words {
             self.turn(code, random, fewest, turn)?;
         }

@@ -87,6 +87,18 @@ fn compare(
     Ok(tally)
 }
 
+/// Passes a failure on. What differs is printed before, since the text of an error that ends a program is cut short.
+fn told<T>(rt: &HostRuntime, outcome: Result<T, Failure>) -> anyhow::Result<T> {
+    match outcome {
+        Ok(value) => Ok(value),
+        Err(Failure::Differs(text)) => {
+            rt.println(text.as_str())?;
+            Err(anyhow!("there is a difference"))
+        }
+        Err(other) => Err(anyhow::Error::from(other)),
+    }
+}
+
 const DECISIONS: [Decision; 4] = [
     Decision::Exhaustive,
     Decision::Elimination,
@@ -100,12 +112,13 @@ fn main(rt: HostRuntime) -> anyhow::Result<()> {
     let Some(Order { seed, words }) = Order::parse(arguments.as_slice()) else {
         return Err(anyhow!("a seed and a count of words, or nothing"));
     };
-    rt.print(tell_wears(heap)?.as_str())?;
-    rt.print(tell_bounds(heap)?.as_str())?;
+    rt.print(told(&rt, tell_wears(heap))?.as_str())?;
+    rt.print(told(&rt, tell_bounds(heap))?.as_str())?;
     let mut random = Random(seed);
     let mut readings = Readings::default();
     for decision in DECISIONS {
-        let tally = compare(heap, &mut random, &mut readings, decision, words)?;
+        let outcome = compare(heap, &mut random, &mut readings, decision, words);
+        let tally = told(&rt, outcome)?;
         println!(rt; "{decision}: {tally}")?;
     }
     let Readings { accepted, refused } = readings;

@@ -1,4 +1,5 @@
-// Bytes and cells as text.
+// Bytes, cells and answers as text.
+use crate::reading::Answer;
 use std::fmt;
 
 /// Bytes as hexadecimal digits.
@@ -11,6 +12,10 @@ pub(crate) struct Cells<'a> {
     pub(crate) cells: &'a [u8],
     pub(crate) marks: &'a [u8],
 }
+
+/// An answer, absent where it is a refusal.
+#[derive(Clone, Copy)]
+pub(crate) struct Told<'a>(pub(crate) Option<&'a Answer>);
 
 impl<'a> Cells<'a> {
     /// Cells of which none is blank.
@@ -37,5 +42,17 @@ impl fmt::Display for Cells<'_> {
             }
         }
         Ok(())
+    }
+}
+
+impl fmt::Display for Told<'_> {
+    fn fmt<W: fmt::Write>(&self, f: &mut fmt::Formatter<W>) -> fmt::Result {
+        let Some(answer) = self.0 else {
+            return f.write_str("refused");
+        };
+        let harm = answer.harm;
+        let word = Cells::readable(answer.word.as_slice());
+        let message = Cells::readable(answer.message.as_slice());
+        write!(f, "harm {harm}, codeword {word}, message {message}")
     }
 }
