@@ -4,7 +4,7 @@ by the least harm over all codewords where messages are few, and else by the syn
 
   python3 tests/compare.py | diff - crates/compare/stdout
 
-As that, it takes a seed and a count of words for each recipe.
+Like the program, it takes a seed and a count of words for each recipe.
 """
 import sys
 from itertools import combinations

@@ -34,18 +34,6 @@ pub(crate) struct Comparison<'a> {
     pub(crate) tally: &'a mut Tally,
 }
 
-/// An answer, absent where the refusal is that there is no codeword, at one of so many stages or at 0; any other refusal passes up.
-fn answered<T: Drop>(res: Result<T, Fault>, stages: usize) -> Result<Option<T>, Fault> {
-    match res {
-        Ok(answer) => Ok(Some(answer)),
-        Err(fault)
-            if fault.kind == Kind::NoCodeword
-                && fault.layer == Layer::Code
-                && fault.place <= stages => { Ok(None) }
-        Err(fault) => Err(fault),
-    }
-}
-
 impl fmt::Display for Numbers {
     fn fmt<W: fmt::Write>(&self, f: &mut fmt::Formatter<W>) -> fmt::Result {
         let Numbers {
@@ -75,6 +63,26 @@ impl Comparison<'_> {
         )?))
     }
 
+    /// What the library answers, absent where it refuses since there is no codeword, at one of so many stages or at 0. The other decoder gives
+    /// no other refusal.
+    fn answered<T: Drop>(
+        &self,
+        call: &str,
+        given: Cells<'_>,
+        outcome: Result<T, Fault>,
+        stages: usize,
+    ) -> Result<Option<T>, Failure> {
+        let fault = match outcome {
+            Ok(answer) => return Ok(Some(answer)),
+            Err(fault) => fault,
+        };
+        let none = fault.kind == Kind::NoCodeword && fault.layer == Layer::Code;
+        if !none || fault.place > stages {
+            self.differ(call, given, &fault, &"no such refusal")?;
+        }
+        Ok(None)
+    }
+
     /// The codeword of a message by the library, which is to be the other encoder's.
     fn encode<C: Code>(&self, code: &C, message: &[u8]) -> Result<Vec<u8>, Failure> {
         let plan = &self.drawn.plan;
@@ -96,10 +104,12 @@ impl Comparison<'_> {
     /// message as it was.
     fn recover<C: Code>(&self, code: &C, word: &[u8]) -> Result<Option<Answer>, Failure> {
         let mut message = vec![in self.heap; 7; self.drawn.plan.message_bits()]?;
-        let answer = answered(code.message_of(word, &mut message), 0)?;
+        let given = Cells::readable(word);
+        let outcome = code.message_of(word, &mut message);
+        let answer = self.answered("message-of", given, outcome, 0)?;
         if answer.is_none() && message.iter().any(|bit| *bit != 7) {
             let wrote = Cells::readable(message.as_slice());
-            self.differ("message-of", Cells::readable(word), &wrote, &UNCHANGED)?;
+            self.differ("message-of", given, &wrote, &UNCHANGED)?;
         }
         let word = Vec::from_slice(self.heap, word)?;
         Ok(answer.map(|()| Answer {
@@ -117,11 +127,13 @@ impl Comparison<'_> {
         marks: &[u8],
     ) -> Result<Option<Answer>, Failure> {
         let mut room = Vec::from_slice(self.heap, word)?;
+        let given = Cells { cells: word, marks };
         let stages = self.drawn.plan.stages();
-        let Some(harm) = answered(code.correct(&mut room, marks), stages)? else {
+        let outcome = code.correct(&mut room, marks);
+        let Some(harm) = self.answered("correct", given, outcome, stages)? else {
             if room.as_slice() != word {
                 let wrote = Cells::readable(room.as_slice());
-                self.differ("correct", Cells { cells: word, marks }, &wrote, &UNCHANGED)?;
+                self.differ("correct", given, &wrote, &UNCHANGED)?;
             }
             return Ok(None);
         };

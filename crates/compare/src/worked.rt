@@ -85,7 +85,7 @@ struct Read {
     payload: Vec<u8>,
 }
 
-/// Writes a page of zeros, wears it and reads it.
+/// The calls that write a page of zeros, wear it and read it.
 fn calls_of(heap: Global, states: &[u8; 8]) -> Result<Vec<Call<'static>>, Failure> {
     let write = Call::Write {
         page: 0,
@@ -105,7 +105,7 @@ fn calls_of(heap: Global, states: &[u8; 8]) -> Result<Vec<Call<'static>>, Failur
     Ok(calls)
 }
 
-/// Makes these calls on a packed page, and answers as the last of them.
+/// Does these calls on a packed page. Answers as the read, which is the last.
 fn read_worn(heap: Global, pile: RecipePile, states: &[u8; 8]) -> Result<Read, Failure> {
     let calls = calls_of(heap, states)?;
     let mut bytes = [0; 16];
