@@ -9,7 +9,7 @@
  * Harm is 2 for each readable cell that differs from what was written and 1 for each blank cell. While a page's harm is below the reach, it
  * reads back what was written. Every call is answered for buffers of any content and length, ends, stays in its buffers, uses no heap
  * and keeps nothing from call to call, so that it may be called from any thread, one call at a time for each memory. A read or a
- * patrol was seen to need 160 kilobytes of stack, and a write 44.
+ * patrol was seen to need 160 kilobytes of stack, and a write 43.
  *
  * The answer of a call, or minus the number of a refusal. Refusals are looked for in this order, and a refused call changes nothing:
  *
