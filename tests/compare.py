@@ -10,61 +10,17 @@ import sys
 from itertools import combinations
 from math import comb
 
+from fields import CONSTANTS, Field, extension_times, polynomial_times
+
 SEED, WORDS = [int(word) for word in sys.argv[1:]] + [20_000, 100][len(sys.argv) - 1:]
 FEW_BITS, HELD_BITS, MOST_SETS = 11, 6, 50_000
 MASK = (1 << 64) - 1
-MODULI = [None, 0x3, 0x7, 0xB, 0x13, 0x25, 0x43, 0x89, 0x11D]
-CONSTANTS = {2: 1, 4: 2, 6: 1, 8: 8}
 CHAINS = [0x11, 0x12, 0x13, 0x22, 0x23, 0x24, 0x25, 0x26, 0x27, 0x28, 0x29, 0x14]
 TEXTS = {
     4: "no columns, or more than 4096 cells",
     6: "message length or columns do not fit the kind of code",
     12: "no codeword near enough",
 }
-
-
-# fields, by logarithms
-
-def polynomial_times(width):
-    def times(a, b):
-        product = 0
-        while b:
-            if b & 1:
-                product ^= a
-            a, b = a << 1, b >> 1
-            if a >> width:
-                a ^= MODULI[width]
-        return product
-    return times
-
-
-def extension_times(width):
-    half, c = width // 2, CONSTANTS[width]
-    times = polynomial_times(half)
-
-    def extended(a, b):
-        (a1, a0), (b1, b0) = divmod(a, 1 << half), divmod(b, 1 << half)
-        low = times(a0, b0) ^ times(c, times(a1, b1))
-        return low | (times(a0, b1) ^ times(a1, b0) ^ times(a1, b1)) << half
-    return extended
-
-
-class Field:
-    def __init__(self, size, times):
-        for generator in range(1, size):
-            powers = [1]
-            while (power := times(powers[-1], generator)) != 1:
-                powers.append(power)
-            if len(powers) == size - 1:
-                break
-        self.order, self.powers = size - 1, powers * 2
-        self.logs = {power: i for i, power in enumerate(powers)}
-
-    def mul(self, a, b):
-        return self.powers[self.logs[a] + self.logs[b]] if a and b else 0
-
-    def div(self, a, b):
-        return self.powers[self.logs[a] + self.order - self.logs[b]] if a else 0
 
 
 FIELDS = {(1, w): Field(1 << w, polynomial_times(w)) for w in range(1, 9)}
