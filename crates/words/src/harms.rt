@@ -1,5 +1,5 @@
 // Harm: how far a word lies from a codeword.
-ghost use Rattle.std.specs.Prelude.{◌≡◌, ◌≤◌, length, sum_by, zip};
+ghost use Rattle.std.specs.Prelude.{◌≡◌, ◌≤◌, length};
 ghost use Rattle.words.specs.Buffers.{answered, refusal};
 ghost use Rattle.words.specs.Harm.{harm_at, harm as harm_of, harm_buffers};
 
@@ -30,13 +30,13 @@ fn harm_at(symbol: u8, mark: u8, sent: u8) -> usize
 
 fn total_harm(word: &[u8], marks: &[u8], codeword: &[u8]) -> usize
     requires { (length word.now ≤ 4096) × ((length marks.now ≡ length word.now) × (length codeword.now ≡ length word.now)) }
-    ensures { result ≡ sum_by (λ p. harm_at p.0.0 p.0.1 p.1) (zip (zip word.now marks.now) codeword.now) }
+    ensures { result ≡ harm_of word.now marks.now codeword.now }
 {
-    word.iter()
-        .zip(marks)
-        .zip(codeword)
-        .map(|((symbol, mark), sent)| harm_at(*symbol, *mark, *sent))
-        .sum()
+    let mut total = 0;
+    for (i, symbol) in word.iter().enumerate() {
+        total += harm_at(*symbol, marks[i], codeword[i]);
+    }
+    total
 }
 
 /// The harm of a word, beside its marks, against a codeword: twice the readable places where they differ plus
