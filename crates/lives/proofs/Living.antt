@@ -1,5 +1,5 @@
 -- One more call of a life, and what it leaves of the calls before it. Assumes nothing.
-use Rattle.std.proofs.Common.{◌≡◌, ℕ, zero, suc, ◌+◌, ◌*◌, ◌<◌, ◌≤◌, List, length, get_or, take, drop, set, Some, Result, sym, ap, ◌∙◌, subst, subst₂, add-one, arith}
+use Rattle.std.proofs.Common.{◌≡◌, ℕ, zero, suc, ◌+◌, ◌*◌, ◌<◌, ◌≤◌, List, length, get_or, take, drop, set, Some, Result, refl, sym, ap, ◌∙◌, subst, subst₂, add-one, arith}
 use borrow.Rule.Slice.PartMut.{put_mid}
 use Rattle.std.specs.List.{slice_get}
 use Rattle.std.proofs.lemmas.List.{drop-drop, get_or-set_other, get_or-set_same, length-set}
@@ -17,7 +17,8 @@ use Rattle.memories.specs.declared.memory.Memory.{Memory}
 use Rattle.memories.specs.Promises.{Joined, Kept}
 use Rattle.pile_laws.proofs.Flat.{column_kept, column_written}
 use Rattle.lives.specs.declared.call.Call.{Call}
-use Rattle.lives.specs.Lived.{Does, Lived, part_of}
+use Rattle.lives.specs.declared.call.Call.TheVariants.{Write, Read, Patrol, Wear}
+use Rattle.lives.specs.Lived.{Answered, Does, Lived, part_of}
 
 module _ {X : Type 0} (xs : List X) (n : ℕ) (x : X) where
   get_set_same : n < length xs → slice_get (set xs n x) n ≡ Some x
@@ -70,6 +71,13 @@ module _ (bytes : ℕ) (room before ys : List ℕ) (n : ℕ) (fits : bytes * n �
       ∙ ap (drop bytes) ahead
       ∙ drop-drop bytes (bytes * n) room
       ∙ ap (λ k. drop k room) (sym next)
+
+-- what a call does is a step of a life
+pub step_of : {c : CodeModel} {m m' : MediumModel} (call : Call) (answer : Result ℕ Fault) (part part' : List ℕ) → Answered call answer part part' m m' c → (step : Step c m m') × Does call step answer part part'
+step_of (Write page payload) answer part part' done = (Step.writes page payload.now answer done.0, (refl, refl, refl, done.1))
+step_of (Read page) answer part part' done = (Step.reads page part part' answer done, (refl, refl, refl, refl))
+step_of (Patrol page) answer part part' done = (Step.patrols page answer done.0, (refl, refl, done.1))
+step_of (Wear page cell state) answer part part' (r, done, told, same) = (Step.wears page cell state r done, (refl, refl, refl, same, told))
 
 module _ {M C : Type 0} (media : MediumGhosts M) (codes : CodeGhosts C) where
   -- what two calls in turn leave as it is

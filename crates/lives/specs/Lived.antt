@@ -7,9 +7,18 @@ use Rattle.words.specs.declared.fault.Layer.TheVariants.{Memory}
 use Rattle.words.specs.Faults.{fault}
 use Rattle.codes.specs.Model.{CodeModel}
 use Rattle.media_laws.specs.Model.{MediumModel}
+use Rattle.memory_laws.specs.Calls.{Patrolled, Recalled, WornPage, Written}
 use Rattle.memory_laws.specs.Lives.{Step, Life}
 use Rattle.lives.specs.declared.call.Call.{Call}
 use Rattle.lives.specs.declared.call.Call.TheVariants.{Write, Read, Patrol, Wear}
+
+-- what a call does of its memory, and the answer; nothing but a read fills its part of the room
+abbrev pub Answered : Call → Result ℕ Fault → List ℕ → List ℕ → MediumModel → MediumModel → CodeModel → Type 0
+Answered (Write page payload) answer part part' m m' c = Written m m' c page payload.now answer × (part' ≡ part)
+Answered (Read page) answer part part' m m' c = Recalled m m' c page part part' answer
+Answered (Patrol page) answer part part' m m' c = Patrolled m m' c page answer × (part' ≡ part)
+Answered (Wear page cell state) answer part part' m m' c =
+    (r : Result (Unit {0}) Fault) × WornPage m m' page cell state r × results.MatchResult r (λ _. answer ≡ Ok 0) (λ f. answer ≡ Err f) × (part' ≡ part)
 
 -- a step is what this call did, with its answer, and its part of the room before and after, which only a read fills
 abbrev pub Does : {c : CodeModel} {m m' : MediumModel} → Call → Step c m m' → Result ℕ Fault → List ℕ → List ℕ → Type 0

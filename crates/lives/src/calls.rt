@@ -1,8 +1,8 @@
 // The calls of a list on a memory whose parts are joined.
 ghost use Rattle.std.specs.Prelude.{◌≡◌, ◌*◌, length};
-ghost use Rattle.memory_laws.specs.Lives.{Life, Step};
+ghost use Rattle.memory_laws.specs.Lives.{Life};
 ghost use Rattle.memories.specs.Promises.{Done, Joined, Kept};
-ghost use Rattle.lives.specs.Lived.{Does, Lived};
+ghost use Rattle.lives.specs.Lived.{Answered, Lived};
 
 use crate::call::{Answer, Call};
 use codes::code::Code;
@@ -16,7 +16,7 @@ fn answer_call<M: Medium, C: Code>(
     room: &mut [u8],
 ) -> Answer
     requires { Joined M.Medium C.Code memory.old }
-    ensures done { Done M.Medium C.Code memory.old memory.new (λ m m' c. (step : Step c m m') × Does call.now step result room.old room.new) }
+    ensures done { Done M.Medium C.Code memory.old memory.new (Answered call.now result room.old room.new) }
     ensures kept { Kept M.Medium C.Code memory.old memory.new }
 {
     match *call {

@@ -1,33 +1,9 @@
 // What one recipe is, in words and numbers.
-ghost use Rattle.std.specs.Prelude.{IfOk};
-ghost use Rattle.pizqarod.specs.Telling.{Tells};
-
 use crate::failure::Failure;
-use crate::hex;
+use recipe_texts::text::read_text;
 use recipes::recipe::Recipe;
 use std::alloc::{AllocError, Global};
 use std::fmt;
-use thiserror::Error;
-use words::fault::Fault;
-
-/// Why a text gives no recipe.
-#[derive(Debug, Drop, Error)]
-pub(crate) enum TextError {
-    #[error("{0}")]
-    Refused(Fault),
-    #[error("not hexadecimal text of whole bytes")]
-    NotHexadecimal,
-}
-
-/// Reads a recipe from hexadecimal text.
-pub(crate) fn read_text(heap: Global, text: &str) -> Result<Result<Recipe, TextError>, AllocError>
-    ensures { IfOk result (Tells text.now) }
-{
-    match hex::parse(heap, text)? {
-        None => Ok(Err(TextError::NotHexadecimal)),
-        Some(bytes) => Ok(Recipe::read(bytes.as_slice()).map_err(TextError::Refused)),
-    }
-}
 
 /// The recipe of a text, for commands that need one.
 pub(crate) fn recipe_of(heap: Global, text: &str) -> Result<Recipe, Failure> {

@@ -1,6 +1,6 @@
 // Why a command is not done.
 
-use crate::describe::TextError;
+use recipe_texts::text::TextError;
 use std::alloc::AllocError;
 use thiserror::Error;
 use words::fault::Fault;

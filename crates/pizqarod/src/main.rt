@@ -5,7 +5,6 @@ mod actions;
 mod cells;
 mod describe;
 mod failure;
-mod hex;
 mod image;
 mod picture;
 mod session;

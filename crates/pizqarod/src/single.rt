@@ -112,7 +112,7 @@ pub(crate) fn decode(heap: Global, recipe: &str, word: &str) -> Result<String, F
 #[cfg(test)]
 mod tests {
     use super::*;
-    use crate::describe::TextError;
+    use recipe_texts::text::TextError;
     use std::test::Fail;
     use words::fault::{Fault, Layer};
 

@@ -1,5 +1,5 @@
 // Many recipes side by side, for choosing one.
-use crate::describe::read_text;
+use recipe_texts::text::read_text;
 use recipes::recipe::Recipe;
 use std::alloc::{AllocError, Global};
 use std::fmt;

@@ -1,5 +1,5 @@
 -- What each trial tells, and what the trials tell together. Assumes nothing.
-use Rattle.std.proofs.Common.{◌≡◌, ℕ, ◌*◌, ◌^◌, ◌<◌, ◌≤◌, Bool, true, false, cond, ltb, List, [], ◌∷◌, map, Some, None, Ok, Err, Option, Result, sym, ap, ◌∙◌, subst₂, ⊎_elim, arith}
+use Rattle.std.proofs.Common.{◌≡◌, ℕ, ◌*◌, ◌^◌, ◌<◌, ◌≤◌, Bool, true, false, cond, ltb, List, [], ◌∷◌, map, Some, None, Ok, Err, Option, Result, refl, sym, ap, ◌∙◌, subst₂, ⊎_elim, arith}
 use Rattle.std.specs.List.{AllByRecursion}
 use Rattle.std.proofs.ByRecursion.{All-map}
 use Rattle.std.proofs.lemmas.List.{length-map}
@@ -63,6 +63,14 @@ module _ (c : CodeModel) (lawful : Lawful c) (d : ℕ) (es : List (Option Estima
           let alone = only_one_near c lawful (map trial_symbol es) (map (trial_mark t) es) (length-map es trial_symbol ∙ fits.0) (length-map es (trial_mark t) ∙ fits.0) u found.0 in
           let high = subst₂ (λ (x y : ℕ). d * y ≤ x) (scored ∙ ap (score d es) found.2) apart (ltb-false _ _ (sym above)) in
           not_near u chosen (λ near. omega (arith, chosen.1, high, ap (λ v. score d es (c.codeword v)) (alone near found.1)))
+
+      -- so the trial gives the code's candidate where its score decides, and nothing else
+      pub tried_candidate : Tried c d es t word (cond (ltb s (d * D)) (Some s) None)
+      tried_candidate = by (ltb s (d * D)) refl
+        where
+          by : (b : Bool) → b ≡ ltb s (d * D) → Tried c d es t word (cond b (Some s) None)
+          by true is = tried_choice is
+          by false is = tried_other is
 
   -- a choice that is too far for every trial is none
   pub no_choice : ((u : List ℕ) → Chosen c d es u → (t : ℕ) → 1 ≤ t → t ≤ d → c.distance ≤ trial_harm t es (c.codeword u)) → (u : List ℕ) → Chosen c d es u → ⊥

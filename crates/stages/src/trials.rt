@@ -1,9 +1,16 @@
 // The trials of a stage, one for each threshold.
-ghost use Rattle.std.specs.Prelude.{◌≡◌, length};
+ghost use Rattle.std.specs.Prelude.{◌≡◌, cond, length, Some, None, nat_lt};
 ghost use Rattle.stage_laws.specs.Trials.{Fitting, Tried, Found};
 
 use crate::columns::Columns;
 use codes::code::Code;
+
+// The score of a candidate that is the choice: one below the inner times the outer distance.
+fn deciding(score: usize, limit: usize) -> Option<usize>
+    ensures { result ≡ cond (nat_lt score limit) (Some score) None }
+{
+    if score < limit { Some(score) } else { None }
+}
 
 impl Columns<'_> {
     // One trial: the score of the codeword that the code finds at a threshold, if that is the choice.
@@ -24,8 +31,7 @@ impl Columns<'_> {
         self.write_symbols(candidate);
         self.write_marks(threshold, marks);
         code.correct(candidate, marks).ok()?;
-        let score = self.score(candidate);
-        if score < limit { Some(score) } else { None }
+        deciding(self.score(candidate), limit)
     }
 
     /// The score of the first candidate that is the choice, with the candidate left as it was found.

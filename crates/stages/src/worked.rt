@@ -1,11 +1,21 @@
 // A worked example.
 ghost use Rattle.std.specs.Prelude.{◌≡◌, [], ◌∷◌, Some, Ok};
-ghost use Rattle.stage_laws.specs.Examples.{StageExample};
+ghost use Rattle.stage_laws.specs.Examples.{StageExample, one_and_zero};
 
 use crate::choice::choose;
 use chains::chain::Estimate;
 use codes::repetition::Repetition;
 use words::fault::Fault;
+
+// The labels 1 and 0, with the harms 0 and 6.
+fn example_estimates() -> [Option<Estimate>; 2]
+    ensures { result ≡ one_and_zero 0 6 }
+{
+    [
+        Some(Estimate { label: 1, harm: 0 }),
+        Some(Estimate { label: 0, harm: 6 }),
+    ]
+}
 
 /// Makes the choice of the worked example of the stage rule, which holds of the definitions.
 pub fn example_choice(word: &mut [u8; 2]) -> Result<Option<usize>, Fault>
@@ -14,9 +24,5 @@ pub fn example_choice(word: &mut [u8; 2]) -> Result<Option<usize>, Fault>
     ensures word { word.new ≡ 1 ∷ 1 ∷ [] }
 {
     let code = Repetition::new(1, 2)?;
-    let estimates = [
-        Some(Estimate { label: 1, harm: 0 }),
-        Some(Estimate { label: 0, harm: 6 }),
-    ];
-    choose(&code, 8, &estimates, word)
+    choose(&code, 8, &example_estimates(), word)
 }

@@ -2,7 +2,7 @@ use Rattle.std.proofs.Common.{◌≡◌, ℕ, ◌+◌, ◌-◌, ◌*◌, ◌≤�
 use Rattle.std.proofs.lemmas.List.{length-drop, length-take-le}
 use Rattle.memory_laws.specs.Lives.{Life}
 use Rattle.pile_laws.proofs.Flat.{part_in}
-use Rattle.lives.proofs.Living.{ahead_more, joined_on, kept_on, lived_on}
+use Rattle.lives.proofs.Living.{ahead_more, joined_on, kept_on, lived_on, step_of}
 use Rattle.lives.proofs.calls.answer_calls.Goals as goal
 
 pub loop-i-init : goal.loop-i-init
@@ -20,6 +20,7 @@ loop-i-preserved g c =
     let memory' = c.answer_call.new.memory in
     let so = c.loop-i.invariant in
     let done = c.answer_call.ensures.done in
+    let step = step_of _ answer _ ys done.1 in
     let span : bytes * i + bytes - bytes * i ≡ bytes = omega arith in
     let inside = part_in bytes (length calls) i c.loop-i-test.true in
     let fits : bytes * i ≤ length room = omega (arith, inside, c.requires.room, c.loop-i.auto.room) in
@@ -28,8 +29,8 @@ loop-i-preserved g c =
     let lm = g.met.M.Medium.lawful memory.medium.now so.joined.medium in
     let lc = g.met.C.Code.lawful memory.code so.joined.code in
     record {
-      lived = lived_on bytes c.args.room.now room ys i fits wide so.ahead g.C.Code.model c.args.memory.now.code memory.code so.kept.code (bytes * i + bytes - bytes * i) span calls c.loop-i.answers _ answer (omega (arith, c.requires.answers, c.loop-i.auto.answers)) c.loop-i-test.true so.lived done.1;
-      joined = joined_on g.M.Medium g.C.Code memory memory' lm lc so.joined c.answer_call.ensures.kept done.0 done.1.0;
+      lived = lived_on bytes c.args.room.now room ys i fits wide so.ahead g.C.Code.model c.args.memory.now.code memory.code so.kept.code (bytes * i + bytes - bytes * i) span calls c.loop-i.answers _ answer (omega (arith, c.requires.answers, c.loop-i.auto.answers)) c.loop-i-test.true so.lived step;
+      joined = joined_on g.M.Medium g.C.Code memory memory' lm lc so.joined c.answer_call.ensures.kept done.0 step.0;
       kept = kept_on g.M.Medium g.C.Code c.args.memory.now memory memory' so.kept c.answer_call.ensures.kept;
       ahead = ahead_more bytes c.args.room.now room ys i fits wide so.ahead (bytes * i + bytes - bytes * i) span;
     }

@@ -1,6 +1,6 @@
 use Rattle.std.proofs.Common.{◌≡◌, drop, None, vec_items}
-use Rattle.pizqarod.specs.Hex.{hex_bytes, with_front, Waits}
-use Rattle.pizqarod.proofs.hex.parse.Given as goal
+use Rattle.recipe_texts.specs.Hex.{hex_bytes, with_front, Waits}
+use Rattle.recipe_texts.proofs.hex.parse.Given as goal
 
 -- the bytes so far stand before those of what is left
 abbrev pub invariant-loop-b : goal.invariant-loop-b

@@ -3,9 +3,9 @@ use Rattle.std.specs.Prelude.{◌≡◌, ℕ, List, Some, None, Ok, Err, Result}
 use Rattle.recipes.specs.declared.recipe.Recipe.{Recipe}
 use Rattle.recipes.specs.Meaning.{Describes}
 use Rattle.recipes.specs.Rules.{recipe_refusal}
-use Rattle.pizqarod.specs.declared.describe.TextError.{TextError}
-use Rattle.pizqarod.specs.declared.describe.TextError.TheVariants.{Refused, NotHexadecimal}
-use Rattle.pizqarod.specs.Hex.{hex_bytes}
+use Rattle.recipe_texts.specs.declared.text.TextError.{TextError}
+use Rattle.recipe_texts.specs.declared.text.TextError.TheVariants.{Refused, NotHexadecimal}
+use Rattle.recipe_texts.specs.Hex.{hex_bytes}
 
 -- a recipe, a refusal of the bytes, or text that writes no bytes
 abbrev pub Tells : List ℕ → Result Recipe TextError → Type 0

@@ -1,7 +1,7 @@
 // Bytes written as hexadecimal text.
 ghost use Rattle.std.specs.Prelude.{◌≡◌, IfOk, None, vec_items, MatchBool};
 ghost use Rattle.std.specs.Option.{option_map};
-ghost use Rattle.pizqarod.specs.Hex.{nibble, hex_bytes, Waits, Steps, Stops};
+ghost use Rattle.recipe_texts.specs.Hex.{nibble, hex_bytes, Waits, Steps, Stops};
 
 use std::alloc::{AllocError, Global};
 
