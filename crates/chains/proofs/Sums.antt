@@ -15,5 +15,5 @@ odd_from odd (b ∷ bits) h a =
     let here = xor_bit odd b h a.0 in
     odd_from (bit_xor odd b) bits (omega (arith, here)) a.1 ∙ omega (arith, here)
 
-pub parity_is : (bits : List ℕ) → AllByRecursion (λ b. b < 2) bits → fold bit_xor 0 bits ≡ parity bits
-parity_is bits a = odd_from 0 bits (omega arith) a ∙ omega arith
+pub parity_is : (bits : List ℕ) (odd : ℕ) → AllByRecursion (λ b. b < 2) bits → odd ≡ fold bit_xor 0 bits → odd ≡ parity bits
+parity_is bits odd a is = is ∙ odd_from 0 bits (omega arith) a ∙ omega arith

@@ -117,6 +117,7 @@ fn ones_of(bits: &[u8]) -> usize
     bits.iter().map(|bit| usize::from(*bit)).sum()
 }
 
+#[tactic(auto, using(crate::proofs::Sums::parity_is))]
 fn parity_of(bits: &[u8]) -> u8
     requires { Cells (length bits.now) bits.now }
     ensures { result ≡ parity bits.now }

@@ -14,7 +14,7 @@ use crate::chain::{Chain, Estimate};
 use crate::checks::{Frame, check_stage};
 use crate::reading::Reading;
 use crate::tables::{number, subsets, widths};
-use words::bits::{bit_at, spell, write_bits};
+use words::bits::{bit_in, spell, write_bits};
 use words::fault::{Fault, Kind, Layer};
 
 /// The Reed-Muller chain of 2^r cells, r from 1 to 4: r + 1 stages, of distance 1, 2, 4 and so on.
@@ -73,7 +73,7 @@ impl ReedMuller {
     {
         let mut rest = word;
         for t in 0..row.count {
-            rest = self.turn(t, u16::from(bit_at(row.bits, row.count - 1 - t)), rest);
+            rest = self.turn(t, u16::from(bit_in(row.bits, row.count, t)), rest);
         }
         rest
     }

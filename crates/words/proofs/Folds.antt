@@ -1,5 +1,5 @@
 -- The number that bits spell, taken in one after the other under a modulus. Assumes nothing.
-use Rattle.std.proofs.Common.{◌≡◌, ℕ, suc, ◌+◌, ◌*◌, ◌%◌, ◌^◌, ◌<◌, List, [], ◌∷◌, length, sym, ap, ◌∙◌, add-mul, mul-add, mul_assoc, arith}
+use Rattle.std.proofs.Common.{◌≡◌, ℕ, suc, ◌+◌, ◌*◌, ◌%◌, ◌^◌, ◌<◌, List, [], ◌∷◌, length, sym, ap, ◌∙◌, add-mul, mul-add, mul_assoc, mod-eq_of_lt, arith}
 use Rattle.std.specs.List.{fold}
 use Rattle.std.proofs.Math.Nat.{mod-add-mod}
 use Rattle.std.proofs.lemmas.Nat.{mul-mod_first, mod_below}
@@ -32,3 +32,8 @@ taken_in m n (b ∷ bs) =
 pub taken_below : (m n : ℕ) (bs : List ℕ) → n < m → fold (taken m) n bs < m
 taken_below m n [] h = h
 taken_below m n (b ∷ bs) h = taken_below m (taken m n b) bs (mod_below (n * 2 % m + b) m (omega arith))
+
+-- so a word of 16 bits takes in what the bits spell, but for its modulus
+pub folded : (bits : List ℕ) (n : ℕ) → n ≡ fold (λ n b. (n * 2 % 65536 + b) % 65536) 0 bits → n ≡ spelled bits % 65536
+folded bits n is =
+    is ∙ sym (mod-eq_of_lt (taken_below 65536 0 bits (omega arith))) ∙ taken_in 65536 0 bits ∙ ap (λ x. x % 65536) (omega arith)

@@ -60,6 +60,11 @@ get_or_bits (suc k) x (suc p) h =
     let next : k - 1 - p ≡ suc k - 1 - suc p = omega arith in
     get_or_bits k x p (omega arith) ∙ ap (λ n. x / 2 ^ n % 2) next
 
+pub bits_behind : (k x p : ℕ) → k ≤ p → slice_index (bits_of k x) p ≡ 0
+bits_behind zero x p h = refl
+bits_behind (suc k) x zero h = absurd (omega arith)
+bits_behind (suc k) x (suc p) h = bits_behind k x p (omega arith)
+
 -- one bit more at the end
 pub spelled_push : (bs : List ℕ) (b : ℕ) → spelled (bs ++ (b ∷ [])) ≡ 2 * spelled bs + b
 spelled_push [] b = omega arith

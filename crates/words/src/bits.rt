@@ -1,8 +1,9 @@
 // Numbers as rows of bits, the first bit most significant.
-ghost use Rattle.std.specs.Prelude.{◌≡◌, ◌/◌, ◌%◌, ◌^◌, length};
+ghost use Rattle.std.specs.Prelude.{◌≡◌, ◌/◌, ◌%◌, ◌^◌, length, slice_index};
 ghost use Rattle.words.specs.Bits.{bits_of, spelled};
 
 /// The number that a row of bits spells. Only its lowest 16 bits are kept.
+#[tactic(auto, using(crate::proofs::Folds::folded))]
 pub fn spell(bits: &[u8]) -> u16
     ensures { result ≡ spelled bits.now % 2 ^ 16 }
 {
@@ -22,12 +23,24 @@ pub fn bit_at(number: u16, weight: usize) -> u8
     }
 }
 
+/// The bit at a place of the row that the lowest `count` bits of a number make, and 0 behind it.
+#[tactic(auto, using(crate::proofs::Spelling::get_or_bits, crate::proofs::Spelling::bits_behind))]
+pub fn bit_in(number: u16, count: usize, place: usize) -> u8
+    ensures { result ≡ slice_index (bits_of count number) place }
+{
+    if place < count {
+        bit_at(number, count - 1 - place)
+    } else {
+        0
+    }
+}
+
 /// Writes the lowest bits of a number, as many as there is room for.
 pub fn write_bits(number: u16, bits: &mut [u8])
     ensures { bits.new ≡ bits_of (length bits.old) number }
 {
     let count = bits.len();
     for (i, bit) in bits.iter_mut().enumerate() {
-        *bit = bit_at(number, count - 1 - i);
+        *bit = bit_in(number, count, i);
     }
 }
