@@ -1,5 +1,8 @@
 // The stages' choices, one after the other, and the word that they make.
 ghost use Rattle.std.specs.Prelude.{◌≡◌, ℕ, suc, ◌*◌, ◌<◌, ◌≤◌, map, length, replicate, MatchResult};
+ghost use Rattle.words.specs.declared.fault.Kind.TheVariants.{NoCodeword};
+ghost use Rattle.words.specs.declared.fault.Layer.TheVariants.{Code as the_code};
+ghost use Rattle.words.specs.Faults.{fault};
 ghost use Rattle.chains.specs.Model.{Cells, LabelsFrom, Stage};
 ghost use Rattle.chains.specs.Promises.{Estimates};
 ghost use Rattle.pile_laws.specs.Build.{labels_at};
@@ -80,6 +83,14 @@ impl<H: Chain, A: Code> Search<'_, H, A> {
         Ok(())
     }
 
+    /// The refusal of the stage behind those that have chosen.
+    fn without_choice(&self, chosen: usize) -> Fault
+        requires { chosen < length self.now.codes.now }
+        ensures { result ≡ fault NoCodeword the_code (suc chosen) }
+    {
+        Fault::new(Kind::NoCodeword, Layer::Code, chosen + 1)
+    }
+
     /// Puts a stage's choice behind those of the stages before it.
     fn choose_stage(&self, chosen: usize, words: &mut [u8]) -> Result<(), Fault>
         requires search { Searched (H.Chain.sound self.now.chain.now) (H.Chain.model self.now.chain.now) A.Code.model A.Code.sound self.now.codes.now self.now.columns self.now.word.now self.now.marks.now }
@@ -94,7 +105,7 @@ impl<H: Chain, A: Code> Search<'_, H, A> {
         let part = &mut words[start..start + self.columns];
         match choose(&self.codes[chosen], inner as u8, estimates, part)? {
             Some(_) => Ok(()),
-            None => Err(Fault::new(Kind::NoCodeword, Layer::Code, chosen + 1)),
+            None => Err(self.without_choice(chosen)),
         }
     }
 

@@ -37,6 +37,7 @@ impl Parts {
 }
 
 /// The chain that a recipe names.
+#[tactic(auto, using(recipes::proofs::Bounds::known_chain))]
 pub fn chain_of(recipe: &Recipe) -> Result<RecipeChain, Fault>
     ensures { Made (IsChain (named_chain recipe.now.table.chain)) result }
 {
@@ -55,6 +56,7 @@ pub fn parts_of(recipe: &Recipe) -> Result<Parts, Fault>
 }
 
 /// The pile that a recipe describes. It is sound, and has the recipe's cells, message bits and reach.
+#[tactic(auto, using(crate::proofs::Joined::pile_made))]
 pub fn pile_of(recipe: &Recipe) -> Result<RecipePile, Fault>
     ensures { Made (PileOf recipe.now.table) result }
 {

@@ -2,9 +2,6 @@ use Rattle.std.proofs.Common.{◌≡◌, ℕ, suc, ◌+◌, ◌-◌, ◌*◌, �
 use Rattle.std.proofs.ByRecursion.{All-get_or}
 use Rattle.std.proofs.lemmas.List.{length-drop, length-take-le}
 use Rattle.words.specs.declared.fault.Fault.{Fault}
-use Rattle.words.specs.declared.fault.Kind.TheVariants.{NoCodeword}
-use Rattle.words.specs.declared.fault.Layer.TheVariants.{Code}
-use Rattle.words.specs.Faults.{fault}
 use Rattle.chains.specs.declared.chain.Estimate.{Estimate}
 use Rattle.chains.specs.Model.{Stage}
 use Rattle.chains.specs.FromLaw.{within}
@@ -111,4 +108,4 @@ pub returns-in-None : goal.returns-in-None
 returns-in-None g c =
     let after = (goal.at.returns-in-None g c).After-choose in
     let none = subst (Outcome g after) (ap Ok c.in-None.is) (outcome g after (Ok c.in_ok-choose.field-0) c.in_ok-choose.ensures.sound) in
-    (c.new.ensures ∙ ap (λ (i : ℕ). fault NoCodeword Code i) (add-one c.args.chosen), none)
+    (c.without_choice.ensures, none)
