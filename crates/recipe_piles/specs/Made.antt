@@ -9,11 +9,11 @@ use Rattle.recipes.specs.declared.table.Stage.{Stage}
 use Rattle.recipes.specs.declared.table.Table.{Table}
 use Rattle.recipes.specs.Totals.{used_stages}
 use Rattle.piles.specs.declared.pile.Pile.{Pile}
-use Rattle.piles.specs.Sound.{SoundPile}
+use Rattle.piles.specs.Sound.{RefusesPile, SoundPile}
 use Rattle.recipe_pile_laws.specs.Named.{named_chain, extension_constant}
 use Rattle.recipe_pile_laws.specs.Numbers.{PileDescribed}
 use Rattle.recipe_piles.specs.declared.parts.Parts.{Parts}
-use Rattle.recipe_piles.specs.Parts.{RecipeChain, StageCode, chain_model, chain_sound, code_model, code_sound, codes_of, models_of}
+use Rattle.recipe_piles.specs.Parts.{RecipeChain, StageCode, chain_model, chain_sound, code_model, code_refuses, code_sound, codes_of, models_of}
 
 abbrev pub Made : {X : Type 0} → (X → Type 0) → Result X Fault → Type 0
 Made Is r = MatchResult r Is (λ _. ⊥)
@@ -56,6 +56,12 @@ pub record PartsOf (t : Table) (p : Parts) : Type 0 where
   pub chain : IsChain (named_chain t.chain) p.chain
   pub codes : StagesHave (used_stages t) (codes_of p)
   pub described : PileDescribed t (chain_model p.chain) (models_of p)
+
+-- parts make their pile, or are refused as a pile's are
+abbrev pub MakesPile : Parts → Result (Pile RecipeChain StageCode) Fault → Type 0
+MakesPile p r =
+    MatchResult r (λ (q : Pile RecipeChain StageCode). SoundPile (chain_sound p.chain) (chain_model p.chain) code_model code_sound (codes_of p) × (q.chain ≡ p.chain) × (take q.used q.stages ≡ codes_of p))
+    (RefusesPile (chain_sound p.chain) (chain_model p.chain) code_model code_sound code_refuses (codes_of p))
 
 -- the pile that a recipe describes
 pub record PileOf (t : Table) (p : Pile RecipeChain StageCode) : Type 0 where

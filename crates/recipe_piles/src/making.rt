@@ -1,7 +1,7 @@
 // The parts of the pile that a recipe describes. A recipe that was read describes one, so none is refused.
 ghost use Rattle.std.specs.Prelude.{◌≡◌, ◌≤◌, take};
 ghost use Rattle.recipe_pile_laws.specs.Named.{named_chain};
-ghost use Rattle.recipe_piles.specs.Made.{IsChain, Made, PartsOf, PileOf};
+ghost use Rattle.recipe_piles.specs.Made.{IsChain, Made, MakesPile, PartsOf, PileOf};
 ghost use Rattle.recipe_piles.specs.Parts.{codes_of};
 
 use crate::chains_made::make_chain;
@@ -34,6 +34,13 @@ impl Parts {
     {
         &self.codes[0..self.stages]
     }
+
+    // The pile of these parts.
+    fn join(&self) -> Result<RecipePile, Fault>
+        ensures { MakesPile self.now result }
+    {
+        Pile::new(self.chain, self.codes())
+    }
 }
 
 /// The chain that a recipe names.
@@ -61,5 +68,5 @@ pub fn pile_of(recipe: &Recipe) -> Result<RecipePile, Fault>
     ensures { Made (PileOf recipe.now.table) result }
 {
     let parts = parts_of(recipe)?;
-    Pile::new(parts.chain, parts.codes())
+    parts.join()
 }
