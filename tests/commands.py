@@ -16,17 +16,19 @@ RECIPE = "13 00 08 02 00 01 01 00 05 01 00 07 00 00 08"
 # Columns of two cells, nine bits of a message and reach 2.
 SMALL = "11 00 08 02 00 01 00 00 08"
 MESSAGE = "1 101000111010011 100001110101010001111 11010011"
+# Columns of three cells, fifteen in all.
+ODD = "23 00 05 02 00 01 00 00 05"
 PROGRAM = os.path.abspath(sys.argv[1])
 
 
-def run(*words):
-    done = subprocess.run([PROGRAM, *map(str, words)], capture_output=True, text=True)
+def run(*words, given=""):
+    done = subprocess.run([PROGRAM, *map(str, words)], input=given, capture_output=True, text=True)
     return done.stdout, done.stderr, done.returncode
 
 
-def expect(printed, *words, error=None):
+def expect(printed, *words, error=None, given=""):
     """What is printed, and the error that the run ends with, if it does."""
-    got = run(*words)
+    got = run(*words, given=given)
     wanted = (printed, *(("", 0) if error is None else (f"Error: {error}\n", 1)))
     if got != wanted:
         sys.exit(f"pizqarod {' '.join(map(str, words))}\nprints, and ends with:\n{got}\nin place of:\n{wanted}")
@@ -121,7 +123,7 @@ def image(path):
     """An image by single actions and by a script, each in a run of its own, and the file that each leaves."""
     text = os.path.join(os.path.dirname(path), "text")
     with open(text, "wb") as file:
-        file.write(bytes(range(32, 32 + 2 * BYTES + 3)))
+        file.write(bytes(range(32, 32 + 2 * BYTES + 1)) + b"\\\xff")
     model = Packed(3)
     expect("create 3 pages\n", "create", path, RECIPE, 3)
     for action in [
@@ -158,19 +160,31 @@ def many(path):
     expect("patrolled 4096 of 5000 pages\npatrol page 4100: harm 1\npatrolled 5000 of 5000 pages\n", "patrol", path, SMALL)
 
 
+def odd(path):
+    """Fifteen cells lie in two bytes of values and two of marks."""
+    expect("create 3 pages\n", "create", path, ODD, 3)
+    expect("wear page 2, cell 14: 1\n", "wear", path, ODD, 2, 14, 1)
+    if open(path, "rb").read() != bytes([0] * 9 + [2] + [0] * 2):
+        sys.exit("a page of fifteen cells lies in other bytes")
+
+
 def others(path):
     """The usage, and what reads a recipe alone."""
     usage, error, status = run()
     if error or status or not usage.startswith("pizqarod describe HEX.."):
         sys.exit("without a command the usage is not printed")
     expect(usage, "decode", RECIPE, error="no such command")
+    expect(usage, "survey", "x", error="no such command")
+    table = "reach  bytes   bits  cells  recipe\n14 01 01: refused 4 (recipe, place 1): no columns, or more than 4096 cells\n"
+    expect(table, "survey", given="  \n 14 01 01 \n")
     expect("recipe 1x\n  not hexadecimal text of whole bytes\nrecipe 14 01 01\n  refused 4 (recipe, place 1): no columns, or more than 4096 cells\n", "describe", "1x", "14 01 01")
     expect("", "encode", RECIPE, "1?", error="not a row of 0, 1 and, in a word, ?")
     expect("", "encode", "11", "1", error="refused 1 (recipe, place 1): the recipe ends inside or before a field")
     expect("", "damage", RECIPE, "01", 2, error="no change of a cell of the word: a number, or a number and ?")
     expect("", "read", path, RECIPE, 0, error="refused 21 (medium, place 0): pages, cells or bytes outside the medium's range")
+    expect("inspect page 0: refused 21 (medium, place 0, page 0): pages, cells or bytes outside the medium's range\n", "inspect", path, RECIPE, 0)
     if os.path.exists(path):
-        sys.exit("a read makes a file")
+        sys.exit("a look makes a file")
     with open(path, "wb") as file:
         file.write(bytes(15))
     expect("", "read", path, RECIPE, 0, error="refused 21 (medium, place 15): pages, cells or bytes outside the medium's range")
@@ -181,4 +195,5 @@ with tempfile.TemporaryDirectory() as folder:
         sys.exit("the words are not refused at each stage")
     image(os.path.join(folder, "image"))
     many(os.path.join(folder, "many"))
+    odd(os.path.join(folder, "odd"))
     others(os.path.join(folder, "none"))
