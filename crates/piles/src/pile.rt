@@ -57,8 +57,9 @@ impl<H: Chain, A: Code> Pile<H, A> {
     fn reach(&self) -> Result<usize, Fault>
         ensures { MatchResult result (λ d. d ≡ reach_of (H.Chain.model self.now.chain) (map A.Code.model (take self.now.used self.now.stages))) (λ _. SoundPile (H.Chain.sound self.now.chain) (H.Chain.model self.now.chain) A.Code.model A.Code.sound (take self.now.used self.now.stages) → ⊥) }
     {
-        check_parts(&self.chain, self.codes())?;
-        least_reach(&self.chain, self.codes())
+        let codes = self.codes();
+        check_parts(&self.chain, codes)?;
+        least_reach(&self.chain, codes)
     }
 }
 

@@ -33,6 +33,7 @@ fn total_harm(word: &[u8], marks: &[u8], codeword: &[u8]) -> usize
     ensures { result ≡ harm_of word.now marks.now codeword.now }
 {
     let mut total = 0;
+    // The harm of a word is a loop over its elements, with index and marks: a rule of the project.
     for (i, symbol) in word.iter().enumerate() {
         total += harm_at(*symbol, marks[i], codeword[i]);
     }
