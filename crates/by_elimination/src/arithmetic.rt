@@ -1,4 +1,4 @@
-// Arithmetic of this program's own: products worked out bit by bit, for the polynomial fields and their extensions.
+// Arithmetic that shares nothing with the library's: products worked out bit by bit, for the polynomial fields and their extensions.
 ghost use Rattle.std.specs.Prelude.{◌≡◌, vec_len};
 
 use std::alloc::{AllocError, Global};
