@@ -26,7 +26,8 @@
  *   12  no codeword is nearer to the page than the reach (read and patrol)
  *   20  the nearest codeword sets a bit that no write sets (read and patrol)
  *
- * A pointer whose length is 0 may be null.
+ * No pointer may be null: one whose length is 0 points to any byte, and nothing is read or written there. recipe, bytes and payload must
+ * not overlap. While a call runs, nothing else may write to them, or read bytes or the payload of a read.
  */
 #ifndef PIZQAROD_H
 #define PIZQAROD_H
@@ -57,7 +58,7 @@ enum {
 int32_t pizqarod_write(const uint8_t *recipe, size_t recipe_len, uint32_t pages, uint8_t *bytes, size_t bytes_len,
                        uint32_t page, const uint8_t *payload, size_t payload_len);
 
-/* Reads a page into a payload. The memory stays as it is. Answers the page's harm. */
+/* Reads a page into a payload. The bytes are passed as those of the other calls and do not change. Answers the page's harm. */
 int32_t pizqarod_read(const uint8_t *recipe, size_t recipe_len, uint32_t pages, uint8_t *bytes, size_t bytes_len,
                       uint32_t page, uint8_t *payload, size_t payload_len);
 

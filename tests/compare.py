@@ -1,6 +1,7 @@
 #!/usr/bin/env python3
 """What the program compare is to print, worked out by other means: the same random recipes and words, encoded by sums of generators and decoded
-by the least harm over all codewords where messages are few, and else by the syndromes of the cells, with the last wrong cell looked up.
+by the least harm over all codewords where messages are few, and else by the syndromes of the cells, with the last wrong cell looked up. Which stage has no
+choice is worked out from the syndromes of the columns, and from the scores of all codewords of a stage, or of those that Euclid's algorithm finds.
 
   python3 tests/compare.py | diff - crates/compare/stdout
 
@@ -10,6 +11,7 @@ import sys
 from itertools import combinations
 from math import comb
 
+from euclid import near, value
 from fields import CONSTANTS, Field, extension_times, polynomial_times
 
 SEED, WORDS = [int(word) for word in sys.argv[1:]] + [20_000, 100][len(sys.argv) - 1:]
@@ -93,15 +95,20 @@ class Pile:
         columns = data[1] << 8 | data[2]
         if not 1 <= columns <= 4096 // n:
             raise Refused(4, 1)
-        self.n, self.cells, self.generators, reach = n, n * columns, [], []
+        self.n, self.cells, self.columns, self.generators, reach = n, n * columns, columns, [], []
+        self.stages = []
         for i, (distance, label_cells) in enumerate(stages):
             kind, k = data[3 + 3 * i], data[4 + 3 * i] << 8 | data[5 + 3 * i]
             code = outer(kind, len(label_cells), k, columns)
             if code is None:
                 raise Refused(5 if kind > 3 or kind == 3 and len(label_cells) % 2 else 6, 4 + 3 * i)
-            if inner and len(label_cells) == 1:
+            held = inner and len(label_cells) == 1
+            if held:
                 code = inner.reach, [[g >> j & 1 for j in range(columns)] for g in inner.generators]
             reach.append(distance * code[0])
+            rows = Column(n, [cells for _, later in stages[i:] for cells in later], distance)
+            field = FIELDS[kind, len(label_cells)] if kind & 1 and not held else None
+            self.stages.append(Stage(rows, label_cells, code, kind == 0 and not held, field, k))
             self.generators += [lay(n, label_cells, word) for word in code[1]]
         self.bits, self.reach = len(self.generators), min(reach)
 
@@ -113,6 +120,74 @@ def lay(n, label_cells, word):
             if label >> b & 1:
                 cells ^= column << n * j
     return cells
+
+
+class Column:
+    """The rows of a column that begin with zeros, as a code of its own."""
+
+    def __init__(self, n, generators, reach):
+        self.cells, self.generators, self.reach = n, generators, reach
+
+
+class Stage:
+    """The rows of a stage, the cells that its label bits add, and its code: the distance and the codewords of single bits."""
+
+    def __init__(self, rows, label_cells, code, is_open, field, k):
+        self.rows, self.label_cells, self.inner = rows, label_cells, rows.reach
+        self.outer, self.generators, self.is_open, self.field, self.k = *code, is_open, field, k
+        self.decoder, self.known, self.all = None, {}, None
+
+    def estimate(self, cells, readable):
+        """The label and the harm of the row that is nearer than the distance, or None."""
+        key = cells & readable, readable
+        if key not in self.known:
+            self.decoder = self.decoder or Syndromes(self.rows)
+            blanks = self.rows.cells - readable.bit_count()
+            found = self.decoder.nearest(*key, blanks, self.inner)
+            width = len(self.label_cells)
+            self.known[key] = found and (int("".join(map(str, spread(found[2], width))), 2), found[0])
+        return self.known[key]
+
+    def score(self, estimates, word):
+        score = 0
+        for estimate, symbol in zip(estimates, word):
+            score += self.inner if estimate is None else estimate[1] if estimate[0] == symbol else 2 * self.inner - estimate[1]
+        return score
+
+    def candidates(self, estimates):
+        n = len(estimates)
+        if self.is_open:
+            return [[e[0] if e else 0 for e in estimates]]
+        if len(self.generators) <= FEW_BITS or self.field is None:
+            if self.all is None:
+                self.all = [[0] * n]
+                for generator in self.generators:
+                    self.all += [[a ^ b for a, b in zip(word, generator)] for word in self.all]
+            return self.all
+        words = []
+        for threshold in sorted({e[1] + 1 for e in estimates if e}):
+            points = [(x, e[0]) for x, e in enumerate(estimates) if e and e[1] < threshold]
+            found = near(self.field, self.k, points) if len(points) >= self.k else None
+            if found is not None:
+                words.append([value(self.field, found, x) for x in range(n)])
+        return words
+
+    def choice(self, estimates):
+        return next((word for word in self.candidates(estimates) if self.score(estimates, word) < self.inner * self.outer), None)
+
+
+def without_choice(pile, cells, readable):
+    """The number of the first stage without a choice, or 0."""
+    columns = [[cells >> pile.n * j & (1 << pile.n) - 1, readable >> pile.n * j & (1 << pile.n) - 1] for j in range(pile.columns)]
+    for number, stage in enumerate(pile.stages, 1):
+        choice = stage.choice([stage.estimate(*column) for column in columns])
+        if choice is None:
+            return number
+        for column, label in zip(columns, choice):
+            for b, added in enumerate(reversed(stage.label_cells)):
+                if label >> b & 1:
+                    column[0] ^= added
+    return 0
 
 
 def encode(generators, message):
@@ -297,7 +372,7 @@ def gather(cells):
 class Tally:
     def __init__(self):
         self.recipes = self.words = self.digest = 0
-        self.correct, self.message_of = [0, 0], [0, 0]
+        self.correct, self.message_of, self.places = [0, 0], [0, 0], [0] * 6
 
     def note(self, numbers):
         digest = self.digest
@@ -320,6 +395,10 @@ class Tally:
             self.note(found[0].to_bytes(8, "big"))
             self.note(spread(found[1], pile.cells))
             self.note(spread(found[2], pile.bits))
+        else:
+            place = without_choice(pile, cells, whole ^ gather(marks))
+            self.places[place] += 1
+            self.note(place.to_bytes(8, "big"))
         found = decoder.nearest(cells, whole, 0, 1)
         self.message_of[found is None] += 1
         if found:
@@ -330,6 +409,9 @@ class Tally:
         for call, (accepted, refused) in ("correct", self.correct), ("message-of", self.message_of):
             for side in "library", "other decoder":
                 print(f"  {call}, {side}: {accepted} accepted, {refused} refused")
+            if call == "correct":
+                for side in "library", "other decoder":
+                    print(f"  refused at stages 1 to 5 and after the last, {side}:", *self.places[1:], "and", self.places[0])
 
 
 def wanted(name, turn):

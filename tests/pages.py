@@ -7,6 +7,7 @@ CELLS, BITS, BYTES, REACH, BLANK = 64, 45, 5, 8, 2
 NUMBERS = [7, 3, 5, 6, 1, 2, 4, 0]  # what the bits of a column's labels stand for, the first stage's first
 POWERS = [1, 2, 4, 3, 6, 7, 5]  # of 2, modulo 0xB
 TEXTS = {12: "no codeword near enough", 17: "no such page", 18: "no such cell, or no such state", 20: "a spare bit is set"}
+PLACES = {12: "stage", 18: "cell", 20: "bit"}  # what a place counts; that of 17 is the page
 
 
 def times(a, b):
@@ -34,10 +35,16 @@ ROWS = {
 
 
 class Refused(Exception):
+    """A refusal by its number, layer, place and page; the place as it is told beside the page."""
+
     def __str__(self):
         number, layer, place, page = self.args
-        where = "" if page is None else f", page {page}"
-        return f"refused {number} ({layer}, place {place}{where}): {TEXTS[number]}"
+        where = [layer]
+        if number in PLACES:
+            where.append("after the last stage" if (number, place) == (12, 0) else f"{PLACES[number]} {place}")
+        if page is not None:
+            where.append(f"page {page}")
+        return f"refused {number} ({', '.join(where)}): {TEXTS[number]}"
 
 
 def pieces(whole, size):
@@ -117,9 +124,10 @@ def correct(page, cells, watch=lambda *stage: None):
 
 
 class Image:
-    """Pages of cells, each 0, 1 or BLANK. What a call returns is told of it."""
+    """Pages of cells, each 0, 1 or BLANK. What a call returns is told of it, and the refused ones are counted."""
 
     pages = []
+    refused = 0
 
     def fetch(self, page):
         if page >= len(self.pages):
@@ -156,35 +164,50 @@ class Image:
         cells[cell] = state
         return state
 
-    def inspect(self, page):
-        cells = word = self.fetch(page)
-        try:
-            harm, word, _ = correct(page, cells)
-            told = f"harm {harm}, {REACH - harm} from the reach"
-        except Refused as fault:
-            told = f"{fault}, reach"
+    def picture(self, page, word, told):
+        cells = self.pages[page]
         drawn = "".join("?" if cell == BLANK else str(cell) if cell == bit else "-+"[cell] for cell, bit in zip(cells, word))
         return "\n  ".join([f"{told} {REACH}, {cells.count(BLANK)} of its cells blank", *pieces(drawn, 8)])
 
+    def inspect(self, page):
+        harm, word, _ = self.corrected(page)
+        return self.picture(page, word, f"harm {harm}, {REACH - harm} from the reach")
+
     def tell(self, name, page, *given, quiet=None):
+        where = f"{name} page {page}{f', cell {given[0]}' if name == 'wear' else ''}"
         try:
             told = getattr(self, name)(page, *given)
         except Refused as fault:
-            told = fault
+            self.refused += 1
+            where, told = name, fault
+            if name == "inspect" and page < len(self.pages):
+                told = self.picture(page, self.pages[page], f"{fault}, reach")
         if told != quiet:
-            print(f"{name} page {page}{f', cell {given[0]}' if name == 'wear' else ''}: {told}")
+            print(f"{where}: {told}")
+
+    def reaches(self, page, count, name, more=""):
+        """Whether there are so many pages from one on; else the first that there is not is refused."""
+        if count <= 0 or page + count <= len(self.pages):
+            return True
+        self.refused += 1
+        missing = max(page, len(self.pages))
+        print(f"{name}: {Refused(17, 'medium', missing, missing)}{more}")
+        return False
 
     def act(self, line):
         match line.split():
-            case ["create", count]:
+            case ["create", count, *replace]:
                 self.pages = [[0] * CELLS for _ in range(int(count))]
                 print(f"create {count} pages")
             case ["write", page, file]:
-                for i, data in enumerate(pieces(open(file, "rb").read(), BYTES)):
-                    self.tell("write", int(page) + i, data)
+                rows = pieces(open(file, "rb").read(), BYTES)
+                if self.reaches(int(page), len(rows), "write", f"; the file takes {len(rows)} from page {page} on, and nothing is written"):
+                    for i, data in enumerate(rows):
+                        self.tell("write", int(page) + i, data)
             case ["read", page, count]:
-                for i in range(int(count)):
-                    self.tell("read", int(page) + i)
+                if self.reaches(int(page), int(count), "read"):
+                    for i in range(int(count)):
+                        self.tell("read", int(page) + i)
             case ["patrol"]:
                 for page in range(len(self.pages)):
                     self.tell("patrol", page, quiet="harm 0")

@@ -85,7 +85,7 @@ static void refuse_recipes(const struct memory *m)
     static const uint8_t nine_of_eight[] = {0x13, 0x00, 0x09, 0x02, 0x00, 0x01, 0x01, 0x00, 0x05};
     uint8_t longer[sizeof recipe + 1] = {0};
     memcpy(longer, recipe, sizeof recipe);
-    refused("no recipe", NULL, 0, m, 0, PAYLOAD, PIZQAROD_RECIPE_ENDS);
+    refused("no recipe", recipe, 0, m, 0, PAYLOAD, PIZQAROD_RECIPE_ENDS);
     refused("a recipe cut off", recipe, sizeof recipe - 1, m, 0, PAYLOAD, PIZQAROD_RECIPE_ENDS);
     refused("an unknown chain", unknown_chain, sizeof unknown_chain, m, 0, PAYLOAD, PIZQAROD_UNKNOWN_CHAIN);
     refused("a byte left over", longer, sizeof longer, m, 0, PAYLOAD, PIZQAROD_BYTES_LEFT_OVER);
@@ -106,15 +106,14 @@ static void refuse_memories(void)
     refused("a page too far comes before the payload", recipe, sizeof recipe, &m, UINT32_MAX, 0, PIZQAROD_PAGE_OUT_OF_RANGE);
     refused("a payload too short", recipe, sizeof recipe, &m, 0, PAYLOAD - 1, PIZQAROD_WRONG_LENGTH);
     refused("a payload too long", recipe, sizeof recipe, &m, 0, PAYLOAD + 1, PIZQAROD_WRONG_LENGTH);
-    expect("no payload", write_page(&m, 0, NULL, 0), -PIZQAROD_WRONG_LENGTH);
-    expect("no room", read_page(&m, 0, NULL, 0), -PIZQAROD_WRONG_LENGTH);
+    refused("no payload", recipe, sizeof recipe, &m, 0, 0, PIZQAROD_WRONG_LENGTH);
     refused("too few cells for a byte", no_byte, sizeof no_byte, &(struct memory){m.bytes, 2, 1}, 0, PAYLOAD, PIZQAROD_UNFIT_MEMORY);
     refused("no byte comes before the page", no_byte, sizeof no_byte, &(struct memory){m.bytes, 2, 1}, 9, 0, PIZQAROD_UNFIT_MEMORY);
     refused("a byte is missing", recipe, sizeof recipe, &(struct memory){m.bytes, m.len - 1, PAGES}, 0, PAYLOAD, PIZQAROD_UNFIT_MEDIUM);
     refused("a byte too many", recipe, sizeof recipe, &(struct memory){m.bytes, PAGE + 1, 1}, 9, 0, PIZQAROD_UNFIT_MEDIUM);
     refused("bytes come before the page's size", no_byte, sizeof no_byte, &(struct memory){m.bytes, 3, 1}, 0, 0, PIZQAROD_UNFIT_MEDIUM);
     refused("no pages", recipe, sizeof recipe, &(struct memory){m.bytes, 0, 0}, 0, PAYLOAD, PIZQAROD_UNFIT_MEDIUM);
-    expect("no bytes", pizqarod_patrol(recipe, sizeof recipe, PAGES, NULL, 0, 0), -PIZQAROD_UNFIT_MEDIUM);
+    refused("no bytes", recipe, sizeof recipe, &(struct memory){m.bytes, 0, PAGES}, 0, PAYLOAD, PIZQAROD_UNFIT_MEDIUM);
     refuse_recipes(&m);
     free(m.bytes);
 

@@ -82,7 +82,7 @@ def main():
             rows.append((reach, size, number, f"{reach:>5}  {size:>5}  {bits:>5}  {cells:>5}  {text}"))
         except Refused as fault:
             kind, place = fault.args
-            rest.append(f"{text}: refused {kind} (recipe, place {place}): {TEXTS[kind]}")
+            rest.append(f"{text}: refused {kind} (recipe, {'length' if kind == 1 else 'offset'} {place}): {TEXTS[kind]}")
     print("reach  bytes   bits  cells  recipe")
     for row in sorted(rows):
         print(row[3])

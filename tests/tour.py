@@ -15,3 +15,4 @@ image = Image()
 for line in open(sys.argv[1] if sys.argv[1:] else "../../examples/tour/script"):
     if line.strip() and not line.startswith("#"):
         image.act(line)
+print(f"{image.refused} refused")

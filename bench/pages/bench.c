@@ -13,6 +13,9 @@ bool page_encode(const uint8_t *recipe, size_t recipe_len, const uint8_t *messag
 size_t page_correct(const uint8_t *recipe, size_t recipe_len, uint8_t *word, size_t word_len, const uint8_t *marks,
                     size_t marks_len);
 
+bool nest_encode(const uint8_t *message, size_t message_len, uint8_t *word, size_t word_len);
+size_t nest_correct(uint8_t *word, size_t word_len, const uint8_t *marks, size_t marks_len);
+
 enum { MOST = 4096, PATTERNS = 8, TRIES = 5 };
 
 struct recipe {
@@ -65,6 +68,12 @@ static double now(void)
     return (double)t.tv_sec + 1e-9 * (double)t.tv_nsec;
 }
 
+/* a page of a recipe, or, where there is no recipe, of the pile that is twelve levels deep */
+static size_t correct(const struct recipe *r, size_t cells, const uint8_t *blank)
+{
+    return r ? page_correct(r->bytes, r->len, word, cells, blank, cells) : nest_correct(word, cells, blank, cells);
+}
+
 /* the best of some tries, in microseconds a page */
 static double time_of(const struct recipe *r, size_t cells, size_t harm, int rounds)
 {
@@ -75,7 +84,7 @@ static double time_of(const struct recipe *r, size_t cells, size_t harm, int rou
             int p = k % PATTERNS;
             for (size_t i = 0; i < cells; i++)
                 word[i] = sent[i] ^ errors[p][i];
-            if (page_correct(r->bytes, r->len, word, cells, marks[p], cells) != harm || memcmp(word, sent, cells) != 0)
+            if (correct(r, cells, marks[p]) != harm || memcmp(word, sent, cells) != 0)
                 puts("not corrected");
         }
         double took = now() - start;
@@ -83,6 +92,18 @@ static double time_of(const struct recipe *r, size_t cells, size_t harm, int rou
             best = took;
     }
     return 1e6 * best / rounds;
+}
+
+static void time_harms(const struct recipe *r, const char *name, size_t cells, size_t bits, size_t reach, int rounds)
+{
+    printf("%-30s %5zu cells %5zu bits reach %4zu:", name, cells, bits, reach);
+    size_t harms[] = {0, reach / 2, reach - 1};
+    for (int h = 0; h < 3; h++) {
+        for (int p = 0; p < PATTERNS; p++)
+            make_pattern(p, cells, harms[h]);
+        printf(" %9.1f", time_of(r, cells, harms[h], rounds));
+    }
+    puts(" us");
 }
 
 int main(void)
@@ -95,14 +116,10 @@ int main(void)
             message[b] = (uint8_t)draw(2);
         if (cells == 0 || !page_encode(r->bytes, r->len, message, bits, sent, cells))
             return 1;
-        printf("%-30s %5zu cells %5zu bits reach %3zu:", r->name, cells, bits, reach);
-        size_t harms[] = {0, reach / 2, reach - 1};
-        for (int h = 0; h < 3; h++) {
-            for (int p = 0; p < PATTERNS; p++)
-                make_pattern(p, cells, harms[h]);
-            printf(" %9.1f", time_of(r, cells, harms[h], cells > 1000 ? 40 : 400));
-        }
-        puts(" us");
+        time_harms(r, r->name, cells, bits, reach, cells > 1000 ? 40 : 400);
     }
+    if (!nest_encode(message, 14, sent, MOST))
+        return 1;
+    time_harms(NULL, "twelve piles, each in the next", MOST, 14, 1024, PATTERNS);
     return 0;
 }

@@ -1,19 +1,15 @@
--- What a chain's calls promise: of a sound chain just the answer that its meaning gives, of any other a refusal. Assumes nothing.
+-- What the calls of a sound chain promise: just the answer that its meaning gives. Assumes nothing.
 use Rattle.std.specs.Prelude.{◌≡◌, ℕ, ◌<◌, ◌≤◌, List, Some, None, Err, Option, Result, MatchResult}
 use Rattle.words.specs.declared.fault.Fault.{Fault}
 use Rattle.words.specs.Buffers.{answered, checked}
 use Rattle.words.specs.Harm.{harm}
 use Rattle.chains.specs.declared.chain.Estimate.{Estimate}
 use Rattle.chains.specs.Model.{ChainModel, Row, at_stage, before}
-use Rattle.chains.specs.Refusals.{outside, stage_refusal, word_refusal, estimate_refusal}
-
--- a check answers exactly when the chain is sound
-abbrev pub SoundOrNot : Type 0 → Result (Unit {0}) Fault → Type 0
-SoundOrNot sound r = MatchResult r (λ _. sound) (λ f. (sound → ⊥) × (f ≡ outside))
+use Rattle.chains.specs.Refusals.{stage_refusal, word_refusal, estimate_refusal}
 
 -- a number of one stage, as its width
-abbrev pub OfStage : Type 0 → ChainModel → (ℕ → ℕ) → ℕ → Result ℕ Fault → Type 0
-OfStage sound h number i r = (sound → r ≡ answered (stage_refusal h.stages i) (number i)) × ((sound → ⊥) → r ≡ Err outside)
+abbrev pub OfStage : ChainModel → (ℕ → ℕ) → ℕ → Result ℕ Fault → Type 0
+OfStage h number i r = r ≡ answered (stage_refusal h.stages i) (number i)
 
 -- a refusal leaves what was there
 abbrev pub kept_or : Option Fault → List ℕ → List ℕ → List ℕ
@@ -21,11 +17,10 @@ kept_or None old new = new
 kept_or (Some f) old new = old
 
 -- the cells hold the word of the labels afterwards
-abbrev pub Worded : Type 0 → ChainModel → List ℕ → List ℕ → Result (Unit {0}) Fault → List ℕ → Type 0
-Worded sound h labels cells r after =
+abbrev pub Worded : ChainModel → List ℕ → List ℕ → Result (Unit {0}) Fault → List ℕ → Type 0
+Worded h labels cells r after =
     let due = word_refusal h.breadth h.stages h.width labels cells in
-    (sound → (r ≡ checked due) × (after ≡ kept_or due cells (h.word labels)))
-    × ((sound → ⊥) → (r ≡ Err outside) × (after ≡ cells))
+    (r ≡ checked due) × (after ≡ kept_or due cells (h.word labels))
 
 -- a row that begins with the decided labels, and the harm of the reading against its word
 abbrev pub Continues : ChainModel → ℕ → List ℕ → List ℕ → Type 0
@@ -43,7 +38,6 @@ abbrev pub Answered : {X : Type 0} → Option Fault → (X → Type 0) → Resul
 Answered (Some f) P r = r ≡ Err f
 Answered None P r = MatchResult r P (λ _. ⊥)
 
-abbrev pub Estimated : Type 0 → ChainModel → ℕ → List ℕ → List ℕ → List ℕ → Result (Option Estimate) Fault → Type 0
-Estimated sound h i labels cells marks r =
-    let due = estimate_refusal h.breadth h.stages h.width i labels cells marks in
-    (sound → Answered due (Estimates h i labels cells marks) r) × ((sound → ⊥) → r ≡ Err outside)
+abbrev pub Estimated : ChainModel → ℕ → List ℕ → List ℕ → List ℕ → Result (Option Estimate) Fault → Type 0
+Estimated h i labels cells marks r =
+    Answered (estimate_refusal h.breadth h.stages h.width i labels cells marks) (Estimates h i labels cells marks) r

@@ -1,11 +1,12 @@
 // The chain of all words of n cells: first whether the number of ones is odd, then which word it is.
-ghost use Rattle.std.specs.Prelude.{◌≡◌, ◌-◌, ◌<◌, ◌≤◌, [], ◌∷◌, length, take, MatchResult};
+ghost use Rattle.std.specs.Prelude.{◌≡◌, ◌-◌, ◌<◌, ◌≤◌, [], ◌∷◌, length, take, None, MatchResult};
 ghost use Rattle.chains.specs.Bits.{spelled, total, parity};
 ghost use Rattle.chains.specs.Even.{EvenRange, EvenMeaning, even_widths, even_word, even_chain, filled};
 ghost use Rattle.chains.specs.Model.{Cells, at_stage};
 ghost use Rattle.chains.specs.Promises.{Estimates};
 ghost use Rattle.chains.specs.Refusals.{outside, RowFits};
 ghost use Rattle.chains.specs.EvenWords.{even_lawful};
+ghost use Rattle.chains.specs.Either.{never_refused};
 
 use crate::chain::{Chain, Estimate};
 use crate::checks::{Frame, check_stage};
@@ -128,9 +129,12 @@ fn parity_of(bits: &[u8]) -> u8
 impl Chain for Even {
     ghost model = { λ h. even_chain h.n };
 
-    ghost sound = { λ _. Unit {0} };
+    // its numbers are those of its kind, by its type
+    ghost refusal = { λ _. None };
 
     ghost lawful = { λ h _. even_lawful h.n h.range };
+
+    ghost one_fault = { λ _ f due. never_refused f due };
 
     fn check(&self) -> Result<(), Fault> {
         Ok(())

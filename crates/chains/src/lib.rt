@@ -1,6 +1,7 @@
 // Chains: inner codes that are partitioned stage by stage, and the estimate of a stage's label from a reading.
 #![tactic(auto)]
 
+mod borrowed;
 pub mod chain;
 mod checks;
 pub mod derived;

@@ -1,7 +1,7 @@
 // The Reed-Muller chain of 2^r cells. A bit's number is a set of coordinates, as a cell's is, and a bit turns the
 // cells that have all of its ones. Words are numbers here, the first cell most significant.
 // Each word lies below 2^2^r, which stays a clause: a type for it would have to hold r beside the word.
-ghost use Rattle.std.specs.Prelude.{◌≡◌, ◌+◌, ◌-◌, ◌*◌, ◌/◌, ◌%◌, ◌^◌, ◌<◌, ◌≤◌, ◌&&◌, length, drop, if◌then◌else◌, MatchResult, ◌==◌, bit_and, bit_or, count_ones, nat_eq, slice_index};
+ghost use Rattle.std.specs.Prelude.{◌≡◌, ◌+◌, ◌-◌, ◌*◌, ◌/◌, ◌%◌, ◌^◌, ◌<◌, ◌≤◌, ◌&&◌, length, drop, if◌then◌else◌, MatchResult, ◌==◌, bit_and, bit_or, count_ones, nat_eq, slice_index, None};
 ghost use Rattle.chains.specs.Bits.{bits_of, spelled};
 ghost use Rattle.chains.specs.Model.{Cells, LabelsFrom, at_stage};
 ghost use Rattle.chains.specs.Promises.{Estimates};
@@ -9,6 +9,7 @@ ghost use Rattle.chains.specs.ReedMuller.{MullerRange, muller_widths, muller_wor
 ghost use Rattle.chains.specs.Refusals.{outside, RowFits, ReadingFits};
 ghost use Rattle.chains.specs.Votes.{column, columns, turned, laid, settled, votes, elected, subsets, decided_bits, found_bits, found_harm};
 ghost use Rattle.chains.specs.MullerLaw.{muller_lawful};
+ghost use Rattle.chains.specs.Either.{never_refused};
 
 use crate::chain::{Chain, Estimate};
 use crate::checks::{Frame, check_stage};
@@ -220,9 +221,12 @@ fn harm_left(rest: u16, blank: u16) -> usize
 impl Chain for ReedMuller {
     ghost model = { λ h. muller_chain h.r };
 
-    ghost sound = { λ _. Unit {0} };
+    // its numbers are those of its kind, by its type
+    ghost refusal = { λ _. None };
 
     ghost lawful = { λ h _. muller_lawful h.r h.range };
+
+    ghost one_fault = { λ _ f due. never_refused f due };
 
     fn check(&self) -> Result<(), Fault> {
         Ok(())

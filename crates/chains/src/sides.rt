@@ -1,5 +1,5 @@
 // A chain of one of two types is a chain. Taken again and again it mixes any kinds under one type.
-ghost use Rattle.chains.specs.Either.{either_chain, either_sound, either_lawful};
+ghost use Rattle.chains.specs.Either.{either_chain, either_refusal, either_lawful, either_fault};
 
 use crate::chain::{Chain, Estimate};
 use either::{Either, for_both};
@@ -8,9 +8,11 @@ use words::fault::Fault;
 impl<G: Chain, H: Chain> Chain for Either<G, H> {
     ghost model = { either_chain G.Chain.model H.Chain.model };
 
-    ghost sound = { either_sound G.Chain.sound H.Chain.sound };
+    ghost refusal = { either_refusal G.Chain.refusal H.Chain.refusal };
 
-    ghost lawful = { either_lawful G.Chain.model H.Chain.model G.Chain.sound H.Chain.sound G.Chain.lawful H.Chain.lawful };
+    ghost lawful = { either_lawful G.Chain.model H.Chain.model G.Chain.refusal H.Chain.refusal G.Chain.lawful H.Chain.lawful };
+
+    ghost one_fault = { either_fault G.Chain.refusal H.Chain.refusal G.Chain.one_fault H.Chain.one_fault };
 
     fn check(&self) -> Result<(), Fault> {
         for_both!(self, chain => chain.check())

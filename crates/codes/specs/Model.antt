@@ -25,7 +25,12 @@ Message c u = Symbols c.width c.message_len u
 abbrev pub Near : CodeModel → List ℕ → List ℕ → List ℕ → Type 0
 Near c word marks u = Message c u × (harm word marks (c.codeword u) < c.distance)
 
--- what an implementation shows: its ranges, and that the codewords of different messages differ in at least D places
+-- a word of the code's length, and a row of marks beside it
+abbrev pub Beside : CodeModel → (word marks : List ℕ) → Type 0
+Beside c word marks = Symbols c.width c.len word × Symbols 1 c.len marks
+
+-- what an implementation shows: its ranges, that the codewords of different messages differ in at least D places, and that a word beside
+-- its marks blames at most one place
 pub record Lawful (c : CodeModel) : Type 0 where
   pub some_width : 1 ≤ c.width
   pub narrow : c.width ≤ 8
@@ -35,6 +40,7 @@ pub record Lawful (c : CodeModel) : Type 0 where
   pub some_distance : 1 ≤ c.distance
   pub symbols : (u : List ℕ) → Message c u → Symbols c.width c.len (c.codeword u)
   pub apart : (u v : List ℕ) → Message c u → Message c v → (u ≢ v) → c.distance ≤ differences (c.codeword u) (c.codeword v)
+  pub one_place : (word marks : List ℕ) → Beside c word marks → (p q : ℕ) → c.Blames word marks p → c.Blames word marks q → p ≡ q
 
 -- at most one codeword lies so near to a word of the code's length beside its marks
 abbrev pub OnlyOneNear : CodeModel → List ℕ → List ℕ → Type 0

@@ -80,6 +80,7 @@ repetition_lawful m n h =
       some_distance = h.1.0;
       symbols = λ u s. (length-replicate n (slice_index u 0), all_replicate (λ x. x < 2 ^ m) n (slice_index u 0) (first_symbol m u s.0 s.1));
       apart = λ u v mu mv ne. replicates_differ n (slice_index u 0) (slice_index v 0) (λ e. ne (single u mu.0 ∙ ap (λ x. x ∷ []) e ∙ sym (single v mv.0)));
+      one_place = λ word marks d p q blamed blamed'. blamed ∙ sym blamed';
     }
 
 -- a row whose symbols are all x

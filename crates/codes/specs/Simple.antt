@@ -31,6 +31,7 @@ open_lawful m n h =
       some_distance = omega arith;
       symbols = λ u s. s;
       apart = λ u v mu mv ne. differ u v (mu.0 ∙ sym mv.0) ne;
+      one_place = λ word marks d p q blamed blamed'. blamed ∙ sym blamed';
     }
 
 -- a blank place harms, whatever the codeword

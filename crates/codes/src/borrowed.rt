@@ -5,9 +5,7 @@ use words::fault::Fault;
 impl<C: Code> Code for &C {
     ghost model = { λ c. C.Code.model c.now };
 
-    ghost sound = { λ c. C.Code.sound c.now };
-
-    ghost refuses = { λ c. C.Code.refuses c.now };
+    ghost refusal = { λ c. C.Code.refusal c.now };
 
     ghost lawful = { λ c s. C.Code.lawful c.now s };
 

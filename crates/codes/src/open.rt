@@ -1,5 +1,5 @@
 // The open code: each word is its own message.
-ghost use Rattle.std.specs.Prelude.{◌≡◌};
+ghost use Rattle.std.specs.Prelude.{◌≡◌, None};
 ghost use Rattle.codes.specs.Kinds.{open_code};
 ghost use Rattle.codes.specs.Making.{InRange, Made};
 ghost use Rattle.codes.specs.Parameters.{parameters_of};
@@ -35,10 +35,8 @@ impl Open {
 impl Code for Open {
     ghost model = { λ c. open_code c.size.width c.size.len };
 
-    ghost sound = { λ _. Unit {0} };
-
-    // it always is sound
-    ghost refuses = { λ _ _. ⊥ };
+    // its numbers are those of its kind, by its type
+    ghost refusal = { λ _. None };
 
     ghost lawful = { λ c s. open_lawful c.size.width c.size.len ((c.size.some_width, c.size.narrow), (c.size.some_places, c.size.short)) };
 

@@ -1,6 +1,6 @@
 // The repetition code: one symbol, N times over.
 // The room to work in is arrays, cut to length, since libraries use no heap.
-ghost use Rattle.std.specs.Prelude.{◌≡◌, ℕ, ◌<◌, ◌≤◌, length, replicate, Ok, ◌==◌};
+ghost use Rattle.std.specs.Prelude.{◌≡◌, ℕ, ◌<◌, ◌≤◌, length, replicate, None, Ok, ◌==◌};
 ghost use Rattle.std.specs.List.{All, list_all};
 ghost use Rattle.words.specs.Harm.{harm as harm_of};
 ghost use Rattle.codes.specs.Kinds.{repetition_code, readable_count, MostFrequent, Counted};
@@ -109,10 +109,8 @@ impl Damaged<'_> {
 impl Code for Repetition {
     ghost model = { λ c. repetition_code c.size.width c.size.len };
 
-    ghost sound = { λ _. Unit {0} };
-
-    // it always is sound
-    ghost refuses = { λ _ _. ⊥ };
+    // its numbers are those of its kind, by its type
+    ghost refusal = { λ _. None };
 
     ghost lawful = { λ c s. repetition_lawful c.size.width c.size.len ((c.size.some_width, c.size.narrow), (c.size.some_places, c.size.short)) };
 

@@ -1,5 +1,5 @@
 // A code of one of two types is a code. Taken again and again, and with piles among the two, it mixes any kinds under one type.
-ghost use Rattle.codes.specs.Either.{either_model, either_sound, either_refuses, either_lawful};
+ghost use Rattle.codes.specs.Either.{either_model, either_refusal, either_lawful};
 
 use crate::code::Code;
 use either::{Either, for_both};
@@ -8,11 +8,9 @@ use words::fault::Fault;
 impl<A: Code, B: Code> Code for Either<A, B> {
     ghost model = { either_model A.Code.model B.Code.model };
 
-    ghost sound = { either_sound A.Code.sound B.Code.sound };
+    ghost refusal = { either_refusal A.Code.refusal B.Code.refusal };
 
-    ghost refuses = { either_refuses A.Code.refuses B.Code.refuses };
-
-    ghost lawful = { either_lawful A.Code.model B.Code.model A.Code.sound B.Code.sound A.Code.lawful B.Code.lawful };
+    ghost lawful = { either_lawful A.Code.model B.Code.model A.Code.refusal B.Code.refusal A.Code.lawful B.Code.lawful };
 
     fn check(&self) -> Result<(), Fault> {
         for_both!(self, code => code.check())

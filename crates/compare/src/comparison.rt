@@ -3,6 +3,7 @@ use crate::decoder::Decoder;
 use crate::draws::Drawn;
 use crate::failure::Failure;
 use crate::nesting::nest;
+use crate::places::Stages;
 use crate::random::Random;
 use crate::reading::{Answer, Reading};
 use crate::tally::Tally;
@@ -31,6 +32,7 @@ pub(crate) struct Comparison<'a> {
     pub(crate) heap: Global,
     pub(crate) drawn: &'a Drawn,
     pub(crate) decoder: Decoder,
+    pub(crate) stages: Stages,
     pub(crate) tally: &'a mut Tally,
 }
 
@@ -63,24 +65,21 @@ impl Comparison<'_> {
         )?))
     }
 
-    /// What the library answers, absent where it refuses since there is no codeword, at one of so many stages or at 0. The other decoder gives
-    /// no other refusal.
+    /// What the library answers, or the place of its refusal since there is no codeword. The other decoder gives no other refusal.
     fn answered<T: Drop>(
         &self,
         call: &str,
         given: Cells<'_>,
         outcome: Result<T, Fault>,
-        stages: usize,
-    ) -> Result<Option<T>, Failure> {
+    ) -> Result<Result<T, usize>, Failure> {
         let fault = match outcome {
-            Ok(answer) => return Ok(Some(answer)),
+            Ok(answer) => return Ok(Ok(answer)),
             Err(fault) => fault,
         };
-        let none = fault.kind == Kind::NoCodeword && fault.layer == Layer::Code;
-        if !none || fault.place > stages {
+        if fault.kind != Kind::NoCodeword || fault.layer != Layer::Code {
             self.differ(call, given, &fault, &"no such refusal")?;
         }
-        Ok(None)
+        Ok(Err(fault.place))
     }
 
     /// The codeword of a message by the library, which is to be the other encoder's.
@@ -100,14 +99,14 @@ impl Comparison<'_> {
         Ok(word)
     }
 
-    /// What the library recovers from a word that may be no codeword, with the word and no harm. A refusal is to leave the room for the
-    /// message as it was.
-    fn recover<C: Code>(&self, code: &C, word: &[u8]) -> Result<Option<Answer>, Failure> {
+    /// What the library recovers from a word that may be no codeword, with the word and no harm, or the place of its refusal. That is to leave
+    /// the room for the message as it was.
+    fn recover<C: Code>(&self, code: &C, word: &[u8]) -> Result<Result<Answer, usize>, Failure> {
         let mut message = vec![in self.heap; 7; self.drawn.plan.message_bits()]?;
         let given = Cells::readable(word);
         let outcome = code.message_of(word, &mut message);
-        let answer = self.answered("message-of", given, outcome, 0)?;
-        if answer.is_none() && message.iter().any(|bit| *bit != 7) {
+        let answer = self.answered("message-of", given, outcome)?;
+        if answer.is_err() && message.iter().any(|bit| *bit != 7) {
             let wrote = Cells::readable(message.as_slice());
             self.differ("message-of", given, &wrote, &UNCHANGED)?;
         }
@@ -119,59 +118,66 @@ impl Comparison<'_> {
         }))
     }
 
-    /// What the library corrects a word to, with the message of that. A refusal is to leave the word as it was.
+    /// What the library corrects a word to, with the message of that, or the place of its refusal. That is to leave the word as it was.
     fn correct<C: Code>(
         &self,
         code: &C,
         word: &[u8],
         marks: &[u8],
-    ) -> Result<Option<Answer>, Failure> {
+    ) -> Result<Result<Answer, usize>, Failure> {
         let mut room = Vec::from_slice(self.heap, word)?;
         let given = Cells { cells: word, marks };
-        let stages = self.drawn.plan.stages();
         let outcome = code.correct(&mut room, marks);
-        let Some(harm) = self.answered("correct", given, outcome, stages)? else {
-            if room.as_slice() != word {
-                let wrote = Cells::readable(room.as_slice());
-                self.differ("correct", given, &wrote, &UNCHANGED)?;
+        match self.answered("correct", given, outcome)? {
+            Ok(harm) => {
+                let recovered = self.recover(code, room.as_slice())?;
+                Ok(recovered.map(|answer| Answer { harm, ..answer }))
             }
-            return Ok(None);
-        };
-        let recovered = self.recover(code, room.as_slice())?;
-        Ok(recovered.map(|answer| Answer { harm, ..answer }))
+            Err(place) => {
+                if room.as_slice() != word {
+                    let wrote = Cells::readable(room.as_slice());
+                    self.differ("correct", given, &wrote, &UNCHANGED)?;
+                }
+                Ok(Err(place))
+            }
+        }
     }
 
-    /// Has both correct a word, and recover the message of its cells as they are.
-    fn compare<C: Code>(&mut self, code: &C, word: &[u8], marks: &[u8]) -> Result<(), Failure> {
+    /// Has both correct a word, and tell where they refuse it.
+    fn compare_correct<C: Code>(
+        &mut self,
+        code: &C,
+        word: &[u8],
+        marks: &[u8],
+    ) -> Result<(), Failure> {
         let heap = self.heap;
         let library = self.correct(code, word, marks)?;
         let reading = Reading::new(heap, word, marks)?;
         let reach = self.drawn.plan.reach();
-        let other = self.decoder.nearest(heap, &reading, reach)?;
+        let other = match self.decoder.nearest(heap, &reading, reach)? {
+            Some(answer) => Ok(answer),
+            None => Err(self.stages.without_choice(heap, word, marks)?),
+        };
         if library != other {
-            let word = Cells { cells: word, marks };
-            self.differ(
-                "correct",
-                word,
-                &Told(library.as_ref()),
-                &Told(other.as_ref()),
-            )?;
+            let given = Cells { cells: word, marks };
+            self.differ("correct", given, &Told(&library), &Told(&other))?;
         }
-        self.tally.note_correct(library.as_ref(), other.as_ref());
+        self.tally.note_correct(&library, &other);
+        Ok(())
+    }
+
+    /// Has both recover the message of a word's cells as they are.
+    fn compare_message_of<C: Code>(&mut self, code: &C, word: &[u8]) -> Result<(), Failure> {
+        let heap = self.heap;
         let clear = vec![in heap; 0; word.len()]?;
         let library = self.recover(code, word)?;
         let reading = Reading::new(heap, word, clear.as_slice())?;
-        let other = self.decoder.nearest(heap, &reading, 1)?;
+        let other = self.decoder.nearest(heap, &reading, 1)?.ok_or(0);
         if library != other {
-            let word = Cells::readable(word);
-            self.differ(
-                "message-of",
-                word,
-                &Told(library.as_ref()),
-                &Told(other.as_ref()),
-            )?;
+            let given = Cells::readable(word);
+            self.differ("message-of", given, &Told(&library), &Told(&other))?;
         }
-        self.tally.note_message_of(library.as_ref(), other.as_ref());
+        self.tally.note_message_of(&library, &other);
         Ok(())
     }
 
@@ -195,7 +201,8 @@ impl Comparison<'_> {
         let mut marks = vec![in heap; 0; word.len()]?;
         trial.spoil(random, &mut word, &mut marks);
         self.tally.note_word(word.as_slice(), marks.as_slice());
-        self.compare(code, word.as_slice(), marks.as_slice())
+        self.compare_correct(code, word.as_slice(), marks.as_slice())?;
+        self.compare_message_of(code, word.as_slice())
     }
 
     /// Compares the numbers of the library's pile with the plan's.

@@ -1,4 +1,5 @@
 // Fields by their rule alone: products of polynomials over two elements, reduced afterwards.
+use by_elimination::arithmetic::Rule;
 
 /// The field of a Reed-Solomon code.
 #[derive(Clone, Copy)]
@@ -70,6 +71,14 @@ impl Field {
             _ => 8,
         };
         Field::Extension { half: width / 2, c }
+    }
+
+    /// The same field, for the decoder by elimination.
+    pub(crate) fn rule(self) -> Rule {
+        match self {
+            Field::Polynomial(width) => Rule::polynomial(width.min(8) as u8),
+            Field::Extension { half, .. } => Rule::extension(half.min(4) as u8 * 2),
+        }
     }
 
     pub(crate) fn times(self, a: u8, b: u8) -> u8 {

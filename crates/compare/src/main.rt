@@ -13,6 +13,7 @@ mod field;
 mod inner;
 mod nesting;
 mod outer;
+mod places;
 mod plan;
 mod random;
 mod reading;
@@ -27,6 +28,7 @@ use crate::comparison::Comparison;
 use crate::decoder::Decoder;
 use crate::draws::{Decision, draw};
 use crate::failure::Failure;
+use crate::places::Stages;
 use crate::random::Random;
 use crate::readings::Readings;
 use crate::tally::Tally;
@@ -80,6 +82,7 @@ fn compare(
             heap,
             drawn: &drawn,
             decoder: Decoder::new(heap, &drawn.plan)?,
+            stages: Stages::new(heap, &drawn.plan)?,
             tally: &mut tally,
         };
         comparison.run_drawn(random, words)?;

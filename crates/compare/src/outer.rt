@@ -117,9 +117,29 @@ impl Outer {
         }
     }
 
+    /// The field of a Reed-Solomon code.
+    pub(crate) fn field(&self) -> Option<Field> {
+        match &self.rule {
+            Rule::Matrix { field, .. } => Some(*field),
+            _ => None,
+        }
+    }
+
+    /// Whether each word is a codeword.
+    pub(crate) fn is_open(&self) -> bool {
+        matches!(&self.rule, Rule::Open)
+    }
+
     /// The bits of a message.
     pub(crate) fn bits(&self) -> usize {
         self.message_len.saturating_mul(self.width)
+    }
+
+    /// The symbols that a message's bits spell.
+    pub(crate) fn symbols(&self, heap: Global, bits: &[u8]) -> Result<Vec<u8>, AllocError> {
+        bits.chunks(self.width.max(1))
+            .map(|bits| (number_of(bits) & 0xff) as u8)
+            .collect(heap)
     }
 
     /// The codeword of a message over n columns.

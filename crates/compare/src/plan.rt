@@ -1,7 +1,7 @@
 // Another reading of a recipe's bytes, and another encoder of the pile that it orders.
 use crate::field::Field;
 use crate::inner::Chain;
-use crate::outer::{Outer, number_of};
+use crate::outer::Outer;
 use std::alloc::{AllocError, Global};
 
 const MOST_CELLS: usize = 4096;
@@ -116,8 +116,16 @@ impl Plan {
         Ok(Outer::listed(self.message_bits(), self.reach(), self.codewords(heap)?))
     }
 
-    pub(crate) fn stages(&self) -> usize {
-        self.codes.len()
+    pub(crate) fn chain(&self) -> Chain {
+        self.chain
+    }
+
+    pub(crate) fn columns(&self) -> usize {
+        self.columns
+    }
+
+    pub(crate) fn codes(&self) -> &[Outer] {
+        self.codes.as_slice()
     }
 
     pub(crate) fn cells(&self) -> usize {
@@ -146,10 +154,7 @@ impl Plan {
         let mut rest = message;
         for code in &self.codes {
             let (bits, others) = rest.split_at(code.bits().min(rest.len()));
-            let symbols: Vec<u8> = bits
-                .chunks(code.width.max(1))
-                .map(|bits| (number_of(bits) & 0xff) as u8)
-                .collect(heap)?;
+            let symbols = code.symbols(heap, bits)?;
             let word = code.encode(heap, symbols.as_slice(), self.columns)?;
             words.push(word).map_err(AllocError::from)?;
             rest = others;

@@ -13,9 +13,9 @@ pub(crate) struct Cells<'a> {
     pub(crate) marks: &'a [u8],
 }
 
-/// An answer, absent where it is a refusal.
+/// An answer, or the place of a refusal: the stage without a choice, or 0.
 #[derive(Clone, Copy)]
-pub(crate) struct Told<'a>(pub(crate) Option<&'a Answer>);
+pub(crate) struct Told<'a>(pub(crate) &'a Result<Answer, usize>);
 
 impl<'a> Cells<'a> {
     /// Cells of which none is blank.
@@ -47,8 +47,9 @@ impl fmt::Display for Cells<'_> {
 
 impl fmt::Display for Told<'_> {
     fn fmt<W: fmt::Write>(&self, f: &mut fmt::Formatter<W>) -> fmt::Result {
-        let Some(answer) = self.0 else {
-            return f.write_str("refused");
+        let answer = match self.0 {
+            Ok(answer) => answer,
+            Err(place) => return write!(f, "refused at place {place}"),
         };
         let harm = answer.harm;
         let word = Cells::readable(answer.word.as_slice());

@@ -10,3 +10,6 @@ pub mod Pairs
 pub mod ExtensionLaws
 pub mod Reciprocals
 pub mod Roots
+pub mod Extending
+pub mod Carryless
+pub mod Subfield

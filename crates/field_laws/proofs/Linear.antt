@@ -84,7 +84,7 @@ gate_adds_bits a x y =
     (bit y))
     (bit x)
 
-twice_adds : (x y : ℕ) → 2 * bit_xor x y ≡ bit_xor (2 * x) (2 * y)
+pub twice_adds : (x y : ℕ) → 2 * bit_xor x y ≡ bit_xor (2 * x) (2 * y)
 twice_adds x y =
     let block = xor_block 1 x y 0 0 (lit< tt) (lit< tt) in
     let left : x * 2 + 0 ≡ 2 * x = omega arith in

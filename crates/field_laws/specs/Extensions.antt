@@ -1,6 +1,6 @@
 -- The extension of a field by a root y of y·y = y + c: the number a + q·b stands for a + b·y, where q is the size of the field below.
 -- Assumes nothing.
-use Rattle.std.specs.Prelude.{ℕ, ◌+◌, ◌*◌, ◌/◌, ◌%◌, ◌<◌, ◌≤◌, Some, None, Option, ◌≢◌}
+use Rattle.std.specs.Prelude.{ℕ, zero, suc, ◌+◌, ◌*◌, ◌/◌, ◌%◌, ◌<◌, ◌≤◌, Bool, true, not, ◌&&◌, Some, None, Option, ◌==◌, ◌≢◌, nat_le, nat_lt}
 use Rattle.field_laws.specs.Fields.{FieldModel, size}
 
 -- no element e has e·e + e = c
@@ -12,6 +12,14 @@ pub record Extends (f : FieldModel) (c : ℕ) : Type 0 where
   pub narrow : f.width ≤ 4
   pub element : c < size f
   pub rootless : Rootless f c
+
+-- the test of that: whether no number below n has e·e + e = c, and with it the other two
+unfoldable pub rootless_below : FieldModel → (c n : ℕ) → Bool
+rootless_below f c zero = true
+rootless_below f c (suc n) = not (f.sum (f.product n n) n == c) && rootless_below f c n
+
+abbrev pub extends : FieldModel → ℕ → Bool
+extends f c = nat_le f.width 4 && (nat_lt c (size f) && rootless_below f c (size f))
 
 -- a + b·y
 abbrev pub joined : FieldModel → ℕ → ℕ → ℕ

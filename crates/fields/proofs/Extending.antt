@@ -1,12 +1,12 @@
 -- The extensions of recipes are lawful. Assumes nothing.
-use Rattle.std.proofs.Common.{◌≡◌, ℕ, ◌/◌, ◌≤◌, Ok, Err, Result, sym, refl, subst, inl, inr, ⊎_elim, arith, lit≤}
+use Rattle.std.proofs.Common.{◌≡◌, ℕ, ◌*◌, ◌/◌, ◌^◌, ◌≤◌, Ok, Err, Result, sym, refl, ◌∙◌, subst, inl, inr, ⊎_elim, arith, lit≤}
 use Rattle.words.specs.declared.fault.Fault.{Fault}
 use Rattle.field_laws.specs.Polynomials.{polynomial, times, double, gate}
-use Rattle.field_laws.specs.Extensions.{Extends}
+use Rattle.field_laws.specs.Extensions.{Extends, extension}
 use Rattle.field_laws.proofs.PolynomialLaws.{polynomial_laws}
 use Rattle.field_laws.proofs.ExtensionLaws.{extension_laws}
 use Rattle.field_laws.proofs.Roots.{extends_2, extends_4, extends_6, extends_8, not_by_one}
-use Rattle.fields.specs.Answers.{Makes}
+use Rattle.fields.specs.Answers.{Makes, of_two}
 use Rattle.fields.specs.Examples.{Examples}
 use Rattle.fields.specs.Recipe.{RecipeConstant, RecipeWidth, RecipeExtension}
 use Rattle.fields.specs.declared.extension.Extension.{Extension}
@@ -49,6 +49,26 @@ made w c r wide constant makes = by r (makes (omega arith) (omega arith))
           (subst (λ (n : ℕ). RecipeExtension w n c) (sym h.1.0) (recipe_extends w c constant)),
     )
     by (Err e) h = absurd (h.0 (recipe_extends w c constant).extends)
+
+-- a recipe's width has one c
+one_constant : (w c c' : ℕ) → RecipeConstant w c → RecipeConstant w c' → c' ≡ c
+one_constant w c c' e e' =
+    elim e [
+      | inl t ↦ elim e' [ inl t' ↦ t'.1 ∙ sym t.1 | inr (inl t') ↦ omega arith | inr (inr (inl t')) ↦ omega arith | inr (inr (inr t')) ↦ omega arith ]
+      | inr (inl t) ↦ elim e' [ inl t' ↦ omega arith | inr (inl t') ↦ t'.1 ∙ sym t.1 | inr (inr (inl t')) ↦ omega arith | inr (inr (inr t')) ↦ omega arith ]
+      | inr (inr (inl t)) ↦ elim e' [ inl t' ↦ omega arith | inr (inl t') ↦ omega arith | inr (inr (inl t')) ↦ t'.1 ∙ sym t.1 | inr (inr (inr t')) ↦ omega arith ]
+      | inr (inr (inr t)) ↦ elim e' [ inl t' ↦ omega arith | inr (inl t') ↦ omega arith | inr (inr (inl t')) ↦ omega arith | inr (inr (inr t')) ↦ t'.1 ∙ sym t.1 ]
+    ]
+
+-- a product in the extension that is made is one in the extension of the recipe
+pub recipe_product : (w h c a b : ℕ) (r : Result ℕ Fault) → RecipeExtension w h c →
+    r ≡ of_two (2 ^ (2 * h)) a b ((extension (polynomial h) c).product a b) →
+    (c' : ℕ) → RecipeConstant w c' → r ≡ of_two (2 ^ w) a b ((extension (polynomial (w / 2)) c').product a b)
+recipe_product w h c a b r e told c' constant =
+    let half : h ≡ w / 2 = omega (arith, e.half_width) in
+    subst (λ (n : ℕ). r ≡ of_two (2 ^ n) a b ((extension (polynomial (w / 2)) c').product a b)) (sym e.half_width)
+    (subst (λ (m : ℕ). r ≡ of_two (2 ^ (2 * h)) a b ((extension (polynomial m) c').product a b)) half
+    (subst (λ (d : ℕ). r ≡ of_two (2 ^ (2 * h)) a b ((extension (polynomial h) d).product a b)) (sym (one_constant w c c' e.constant constant)) told))
 
 pub examples : Examples
 unfolding times double gate

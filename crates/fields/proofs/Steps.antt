@@ -1,14 +1,26 @@
 -- What a call on elements of a field answers, and the two parts of an extension's number. Assumes nothing.
-use Rattle.std.proofs.Common.{◌≡◌, ℕ, ◌*◌, ◌/◌, ◌%◌, ◌^◌, ◌<◌, ltb, Some, Ok, Err, Option, Result, sym, ap, ◌∙◌, subst, arith}
-use Rattle.std.proofs.lemmas.Bool.{lt-ltb, cond-true}
+use Rattle.std.proofs.Common.{◌≡◌, ℕ, ◌*◌, ◌/◌, ◌%◌, ◌^◌, ◌<◌, Bool, true, false, cond, ltb, Some, Ok, Err, Option, Result, sym, refl, ap, ◌∙◌, subst, arith}
+use Rattle.std.proofs.lemmas.Bool.{lt-ltb, ltb-true, cond-true}
 use Rattle.words.specs.declared.fault.Fault.{Fault}
 use Rattle.field_laws.specs.Fields.{FieldModel, FieldLaws, size}
 use Rattle.field_laws.proofs.Reciprocals.{found_below}
-use Rattle.fields.specs.Answers.{of_one, too_large}
+use Rattle.fields.specs.Answers.{of_one, of_two, too_large}
 use Rattle.fields.specs.declared.below.Parts.{Parts}
 
 pub ok_one : {A : Type 0} (q a : ℕ) (v : A) → a < q → of_one q a v ≡ Ok v
 ok_one q a v ha = cond-true (ltb a q) (Ok v) (Err (too_large 0)) (lt-ltb a q ha)
+
+-- operands that are not refused
+pub two_below : (q a b : ℕ) {u : Unit {0}} → Ok u ≡ of_two q a b tt → (a < q) × (b < q)
+two_below q a b {u = u} e = by (ltb a q) (ltb b q) (ltb-true a q) (ltb-true b q) e
+  where
+    by : (s t : Bool) → (s ≡ true → a < q) → (t ≡ true → b < q) → Ok u ≡ cond s (cond t (Ok u) (Err (too_large 1))) (Err (too_large 0)) → (a < q) × (b < q)
+    by true true first second e = (first refl, second refl)
+    by true false first second e = cc
+    by false t first second e = cc
+
+pub ok_two : {A : Type 0} (q a b : ℕ) (v : A) → a < q → b < q → of_two q a b v ≡ Ok v
+ok_two q a b v ha hb = rw (lt-ltb a q ha, lt-ltb b q hb) refl
 
 -- a result that is both
 pub same_value : {A : Type 0} {r : Result A Fault} {x v : A} → r ≡ Ok x → r ≡ Ok v → x ≡ v

@@ -1,4 +1,5 @@
 pub mod Answers
 pub mod Below
 pub mod Examples
+pub mod Extending
 pub mod Recipe

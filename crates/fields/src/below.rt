@@ -1,5 +1,6 @@
 // Arithmetic in the field below an extension. Elements of an extension come apart into two elements of that field.
 ghost use Rattle.std.specs.Prelude.{◌≡◌, ℕ, ◌+◌, ◌*◌, ◌/◌, ◌%◌, ◌^◌, ◌<◌, ◌≤◌, IfOk, Ok, Err};
+ghost use Rattle.words.specs.Soundness.{Sound};
 ghost use Rattle.field_laws.specs.Extensions.{Extends, Rootless};
 ghost use Rattle.fields.specs.Answers.{Checks};
 ghost use Rattle.fields.specs.Below.{Narrow, Trace, TwoProducts, Norm, ProductParts, ScaledParts, Scaled, SumOf, ProductOf, InverseOf};
@@ -27,7 +28,7 @@ pub(crate) struct Below<'a, F> {
 impl<'a, F: Field> Below<'a, F> {
     /// Refuses with 13 if the width is above 4.
     pub(crate) fn new(field: &'a F, c: u8) -> Result<Below<'a, F>, Fault>
-        ensures narrow { Narrow (F.sound field.now) (F.model field.now) (λ (b : Below F). b.width) result }
+        ensures narrow { Narrow (Sound F.refusal field.now) (F.model field.now) (λ (b : Below F). b.width) result }
         ensures parts { IfOk result (λ (b : Below F). (b.field.now ≡ field.now) × (b.c ≡ c)) }
     {
         let width = field.width();
@@ -78,7 +79,7 @@ impl<F: Field> Below<'_, F> {
 
     /// e·e + e
     fn trace(&self, e: u8) -> Result<u8, Fault>
-        ensures { Trace (F.sound self.now.field.now) (F.model self.now.field.now) e result }
+        ensures { Trace (Sound F.refusal self.now.field.now) (F.model self.now.field.now) e result }
     {
         let square = self.field.product(e, e)?;
         self.field.sum(square, e)
@@ -86,7 +87,7 @@ impl<F: Field> Below<'_, F> {
 
     /// Ok if no element e has e·e + e = c; else 13.
     fn no_root(&self) -> Result<(), Fault>
-        requires { F.sound self.now.field.now × (self.now.width ≡ (F.model self.now.field.now).width) }
+        requires { Sound F.refusal self.now.field.now × (self.now.width ≡ (F.model self.now.field.now).width) }
         ensures { Checks (Rootless (F.model self.now.field.now) self.now.c) result }
     {
         for e in 0..self.size() {
@@ -99,7 +100,7 @@ impl<F: Field> Below<'_, F> {
 
     /// Ok if c is an element below, and no element e has e·e + e = c; else 13.
     pub(crate) fn check(&self) -> Result<(), Fault>
-        requires { F.sound self.now.field.now × (self.now.width ≡ (F.model self.now.field.now).width) }
+        requires { Sound F.refusal self.now.field.now × (self.now.width ≡ (F.model self.now.field.now).width) }
         ensures { Checks (Extends (F.model self.now.field.now) self.now.c) result }
     {
         if self.c >= self.size() {
@@ -111,7 +112,7 @@ impl<F: Field> Below<'_, F> {
     /// a·u + b·v
     #[inline(always)]
     fn two_products(&self, a: u8, u: u8, b: u8, v: u8) -> Result<u8, Fault>
-        ensures { TwoProducts (F.sound self.now.field.now) (F.model self.now.field.now) a u b v result }
+        ensures { TwoProducts (Sound F.refusal self.now.field.now) (F.model self.now.field.now) a u b v result }
     {
         let au = self.field.product(a, u)?;
         let bv = self.field.product(b, v)?;
@@ -120,7 +121,7 @@ impl<F: Field> Below<'_, F> {
 
     /// a·(a + b) + c·b·b, for a + b·y.
     fn norm(&self, x: Parts) -> Result<u8, Fault>
-        ensures { Norm (F.sound self.now.field.now) (F.model self.now.field.now) self.now.c x.low x.high result }
+        ensures { Norm (Sound F.refusal self.now.field.now) (F.model self.now.field.now) self.now.c x.low x.high result }
     {
         let sum = self.field.sum(x.low, x.high)?;
         let square = self.field.product(x.high, x.high)?;
@@ -129,7 +130,7 @@ impl<F: Field> Below<'_, F> {
 
     /// The parts of the product of `x` and `y`.
     fn product_parts(&self, x: Parts, y: Parts) -> Result<Parts, Fault>
-        ensures { ProductParts (F.sound self.now.field.now) (F.model self.now.field.now) self.now.c x.low x.high y.low y.high result }
+        ensures { ProductParts (Sound F.refusal self.now.field.now) (F.model self.now.field.now) self.now.c x.low x.high y.low y.high result }
     {
         let squared = self.field.product(x.high, y.high)?;
         let low = self.two_products(x.low, y.low, self.c, squared)?;
@@ -140,7 +141,7 @@ impl<F: Field> Below<'_, F> {
 
     /// The parts of i·((a + b) + b·y), for a + b·y.
     fn scaled_parts(&self, i: u8, x: Parts) -> Result<Parts, Fault>
-        ensures { ScaledParts (F.sound self.now.field.now) (F.model self.now.field.now) i x.low x.high result }
+        ensures { ScaledParts (Sound F.refusal self.now.field.now) (F.model self.now.field.now) i x.low x.high result }
     {
         let sum = self.field.sum(x.low, x.high)?;
         let low = self.field.product(i, sum)?;
@@ -150,7 +151,7 @@ impl<F: Field> Below<'_, F> {
 
     /// i·((a + b) + b·y), for a + b·y.
     fn scaled(&self, i: u8, x: Parts) -> Result<u8, Fault>
-        ensures { Scaled (F.sound self.now.field.now) (F.model self.now.field.now) i self.now.width x.low x.high result }
+        ensures { Scaled (Sound F.refusal self.now.field.now) (F.model self.now.field.now) i self.now.width x.low x.high result }
     {
         let parts = self.scaled_parts(i, x)?;
         self.join(parts)
@@ -158,7 +159,7 @@ impl<F: Field> Below<'_, F> {
 
     /// The sum of two elements of the extension.
     pub(crate) fn sum(&self, a: u8, b: u8) -> Result<u8, Fault>
-        ensures { SumOf (F.sound self.now.field.now) (F.model self.now.field.now) self.now.width a b result }
+        ensures { SumOf (Sound F.refusal self.now.field.now) (F.model self.now.field.now) self.now.width a b result }
     {
         let x = self.split(a);
         let y = self.split(b);
@@ -169,7 +170,7 @@ impl<F: Field> Below<'_, F> {
 
     /// The product of two elements of the extension.
     pub(crate) fn product(&self, a: u8, b: u8) -> Result<u8, Fault>
-        ensures { ProductOf (F.sound self.now.field.now) (F.model self.now.field.now) self.now.c self.now.width a b result }
+        ensures { ProductOf (Sound F.refusal self.now.field.now) (F.model self.now.field.now) self.now.c self.now.width a b result }
     {
         let x = self.split(a);
         let y = self.split(b);
@@ -179,7 +180,7 @@ impl<F: Field> Below<'_, F> {
 
     /// The inverse of an element of the extension, absent for zero.
     pub(crate) fn inverse(&self, a: u8) -> Result<Option<u8>, Fault>
-        ensures { InverseOf (F.sound self.now.field.now) (F.model self.now.field.now) self.now.c self.now.width a result }
+        ensures { InverseOf (Sound F.refusal self.now.field.now) (F.model self.now.field.now) self.now.c self.now.width a result }
     {
         let x = self.split(a);
         let n = self.norm(x)?;

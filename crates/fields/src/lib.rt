@@ -2,6 +2,7 @@
 #![tactic(auto)]
 
 mod below;
+mod borrowed;
 pub mod extension;
 pub mod field;
 pub mod polynomial;

@@ -1,7 +1,7 @@
 // The polynomial fields.
-ghost use Rattle.std.specs.Prelude.{◌≡◌, ◌+◌, ◌*◌, ◌^◌, ◌<◌, ◌≤◌, slice_index};
-ghost use Rattle.field_laws.specs.Polynomials.{polynomial, modulus, times};
-ghost use Rattle.fields.specs.Answers.{Makes};
+ghost use Rattle.std.specs.Prelude.{◌≡◌, ℕ, ◌+◌, ◌*◌, ◌^◌, ◌<◌, ◌≤◌, IfOk, None, slice_index};
+ghost use Rattle.field_laws.specs.Polynomials.{polynomial, modulus, times, Reduced};
+ghost use Rattle.fields.specs.Answers.{Makes, of_two};
 ghost use Rattle.field_laws.proofs.PolynomialLaws.{polynomial_laws};
 ghost use Rattle.field_laws.proofs.Tables.{logs, antilogs};
 
@@ -89,7 +89,8 @@ impl Polynomial {
 impl Field for Polynomial {
     ghost model = { λ p. polynomial p.width };
 
-    ghost sound = { λ _. Unit {0} };
+    // its width is one of the eight, by its type
+    ghost refusal = { λ _. None };
 
     ghost lawful = { λ f _. polynomial_laws f.width f.range.0 f.range.1 };
 
@@ -106,7 +107,12 @@ impl Field for Polynomial {
         Ok(a ^ b)
     }
 
-    fn product(&self, a: u8, b: u8) -> Result<u8, Fault> {
+    /// The product of the two as polynomials, less the multiple of the modulus that leaves m coefficients. There is one such number.
+    fn product(&self, a: u8, b: u8) -> Result<u8, Fault>
+        ensures field { result ≡ of_two (2 ^ self.now.width) a b ((polynomial self.now.width).product a b) }
+        ensures reduced { IfOk result (Reduced self.now.width a b) }
+        ensures single { (p q : ℕ) → Reduced self.now.width a b p → Reduced self.now.width a b q → q ≡ p }
+    {
         elements(self.size(), a, b)?;
         Ok(self.multiply(a, b))
     }

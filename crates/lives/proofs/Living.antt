@@ -1,97 +1,96 @@
--- One more call of a life, and what it leaves of the calls before it. Assumes nothing.
-use Rattle.std.proofs.Common.{◌≡◌, ℕ, zero, suc, ◌+◌, ◌*◌, ◌<◌, ◌≤◌, List, length, get_or, take, drop, set, Some, Result, refl, sym, ap, ◌∙◌, subst, subst₂, add-one, arith}
+-- One more call of a life, and what holds at every state along it. Assumes nothing.
+use Rattle.std.proofs.Common.{◌≡◌, ℕ, suc, ◌+◌, ◌*◌, ◌<◌, ◌≤◌, List, ◌++◌, length, get_or, take, drop, set, Result, sym, ap, ◌∙◌, subst, arith, mul-suc, mul-le-mul_left}
 use borrow.Rule.Slice.PartMut.{put_mid}
-use Rattle.std.specs.List.{slice_get}
-use Rattle.std.proofs.lemmas.List.{drop-drop, get_or-set_other, get_or-set_same, length-set}
-use Rattle.std.proofs.lemmas.Option.{slice_get-get_or}
-use Rattle.std.proofs.lemmas.Slice.{drop-put_mid}
+use Rattle.std.proofs.lemmas.List.{drop-drop, length-drop, length-take-le, take_more, take_more_set}
+use Rattle.std.proofs.Math.Seq.{take-add}
+use Rattle.std.proofs.lemmas.Slice.{drop-put_mid, take-put_mid}
 use Rattle.words.specs.declared.fault.Fault.{Fault}
+use Rattle.words.specs.Soundness.{Sound}
 use Rattle.codes.specs.declared.code.Code.{Ghosts as CodeGhosts}
 use Rattle.codes.specs.Model.{CodeModel, Lawful}
 use Rattle.media_laws.specs.Model.{MediumModel, LawfulMedium}
 use Rattle.media.specs.declared.medium.Medium.{Ghosts as MediumGhosts}
 use Rattle.memory_laws.specs.Calls.{Joins}
 use Rattle.memory_laws.specs.Lives.{Step, Life}
+use Rattle.memory_laws.specs.Payload.{page_bytes}
+use Rattle.memory_laws.proofs.ComesBack.{comes_back}
 use Rattle.memory_laws.proofs.Lives.{joins_on, life_follows}
 use Rattle.memories.specs.declared.memory.Memory.{Memory}
 use Rattle.memories.specs.Promises.{Joined, Kept}
-use Rattle.pile_laws.proofs.Flat.{column_kept, column_written}
 use Rattle.lives.specs.declared.call.Call.{Call}
-use Rattle.lives.specs.declared.call.Call.TheVariants.{Write, Read, Patrol, Wear}
-use Rattle.lives.specs.Lived.{Answered, Does, Lived, part_of}
+use Rattle.lives.specs.Promises.{AlwaysBringsBack}
+use Rattle.lives.specs.Runs.{Answered, Does, LeavesBeside, LeavesBytes, Run}
 
-module _ {X : Type 0} (xs : List X) (n : ℕ) (x : X) where
-  get_set_same : n < length xs → slice_get (set xs n x) n ≡ Some x
-  get_set_same l = slice_get-get_or (set xs n x) n x (omega (arith, length-set xs n x)) ∙ ap Some (get_or-set_same xs n x x l)
+-- what is written comes back at every state along a life
+pub always_back : (c : CodeModel) → Lawful c → {m m' : MediumModel} → LawfulMedium m → Joins m c → (life : Life c m m') → AlwaysBringsBack life
+always_back c lc {m} lm j Life.begins = comes_back c lc m m lm j Life.begins
+always_back c lc {m} {m'} lm j (Life.goes_on life step) =
+    (always_back c lc lm j life, comes_back c lc m m' lm j (Life.goes_on life step))
 
-  get_set_below : (k : ℕ) → n < length xs → k < n → slice_get (set xs n x) k ≡ slice_get xs k
-  get_set_below k l below =
-      slice_get-get_or (set xs n x) k x (omega (arith, length-set xs n x))
-      ∙ ap Some (get_or-set_other xs n k x x (λ e. omega (arith, e)))
-      ∙ sym (slice_get-get_or xs k x (omega arith))
+-- the part of a call lies within a room that has one for each
+pub part_in : (bytes calls i : ℕ) → i < calls → bytes * i + bytes ≤ bytes * calls
+part_in bytes calls i l = omega (arith, mul-suc bytes i, mul-le-mul_left {m = suc i} {n = calls} bytes l)
 
-module _ {c : CodeModel} (bytes : ℕ) (calls : List Call) (answers answers' : List (Result ℕ Fault)) (room before after : List ℕ) where
-  -- a life stays that of its calls while their answers and their parts of the room stay
-  lived_kept : {m m' : MediumModel} (life : Life c m m') (n : ℕ) → ((k : ℕ) → k < n → slice_get answers' k ≡ slice_get answers k) → ((k : ℕ) → k < n → part_of bytes k after ≡ part_of bytes k before) → Lived bytes calls answers room before life n → Lived bytes calls answers' room after life n
-  lived_kept Life.begins n same_answers same_parts lived = lived
-  lived_kept (Life.goes_on life step) zero same_answers same_parts lived = absurd lived
-  lived_kept (Life.goes_on life step) (suc n) same_answers same_parts lived =
-      let call = lived.1.0 in
-      let answer = lived.1.2.0 in (
-        lived_kept life n (λ k l. same_answers k (omega arith)) (λ k l. same_parts k (omega arith)) lived.0,
-        (call, lived.1.1, (answer, same_answers n (omega arith) ∙ lived.1.2.1, subst (λ (part : List ℕ). Does call step answer (part_of bytes n room) part) (sym (same_parts n (omega arith))) lived.1.2.2)),
-      )
+-- what a call of a memory did, which keeps its code
+pub does_of : {M C : Type 0} (media : MediumGhosts M) (model : C → CodeModel) (code code' : C) → code' ≡ code → {m m' : M} (call : Call) (answer : Result ℕ Fault) (part part' : List ℕ) → Answered call answer part part' (media.model m) (media.model m') (model code') → LeavesBytes media (model code') m m' call answer → LeavesBeside media (model code') m m' call answer part → Does media (model code) m m' call answer part part'
+does_of {C = C} media model code code' same {m} {m'} call answer part part' answered bytes beside =
+    subst (λ (x : C). Does media (model x) m m' call answer part part') same (record { answered = answered; bytes = bytes; beside = beside })
 
-module _ (bytes : ℕ) (room before ys : List ℕ) (n : ℕ) (fits : bytes * n ≤ length before) (wide : length ys ≡ bytes) (ahead : drop (bytes * n) before ≡ drop (bytes * n) room) where
-  lived_more : {c : CodeModel} {m m' m'' : MediumModel} (calls : List Call) (answers : List (Result ℕ Fault)) (life : Life c m m') (step : Step c m' m'') (call : Call) (answer : Result ℕ Fault) → n < length answers → slice_get calls n ≡ Some call → Does call step answer (part_of bytes n before) ys → Lived bytes calls answers room before life n → Lived bytes calls (set answers n answer) room (put_mid (bytes * n) bytes before ys) (Life.goes_on life step) (n + 1)
-  lived_more {c} {m} {m'} {m''} calls answers life step call answer within is does lived =
-      let after = put_mid (bytes * n) bytes before ys in
-      let told : Lived bytes calls (set answers n answer) room after (Life.goes_on life step) (suc n) = (
-        lived_kept bytes calls answers (set answers n answer) room before after life n (λ k l. get_set_below answers n answer k within l) (λ k l. column_kept bytes k n before ys l fits) lived,
-        (call, is, (answer, get_set_same answers n answer within, subst₂ (Does call step answer) (ap (take bytes) ahead) (sym (column_written bytes n before ys fits wide)) does)),
-      ) in
-      subst (λ (k : ℕ). Lived bytes calls (set answers n answer) room after (Life.goes_on life step) k) (sym (add-one n)) told
+module _ {M : Type 0} (media : MediumGhosts M) (c : CodeModel) {start m : M} where
+  -- the same calls, answers and payloads under other names
+  moved : (calls calls' : List Call) (answers answers' : List (Result ℕ Fault)) (before before' after after' : List ℕ) → calls ≡ calls' → answers ≡ answers' → before ≡ before' → after ≡ after' → Run media c start calls answers before after m → Run media c start calls' answers' before' after' m
+  moved calls calls' answers answers' before before' after after' ec ea eb ef run =
+      let by_calls = subst (λ (x : List Call). Run media c start x answers before after m) ec run in
+      let by_answers = subst (λ (x : List (Result ℕ Fault)). Run media c start calls' x before after m) ea by_calls in
+      let by_before = subst (λ (x : List ℕ). Run media c start calls' answers' x after m) eb by_answers in
+      subst (λ (x : List ℕ). Run media c start calls' answers' before' x m) ef by_before
 
-  -- the life with one more call, of a memory that keeps its code
-  pub lived_on : {A : Type 0} (model : A → CodeModel) (code code' : A) → code' ≡ code → (k : ℕ) → k ≡ bytes → {m m' m'' : MediumModel} (calls : List Call) (answers : List (Result ℕ Fault)) (default : Call) (answer : Result ℕ Fault) → n < length answers → n < length calls → (life : Life (model code) m m') × Lived bytes calls answers room before life n → (step : Step (model code') m' m'') × Does (get_or calls n default) step answer (take k (drop (bytes * n) before)) ys → (life : Life (model code) m m'') × Lived bytes calls (set answers n answer) room (put_mid (bytes * n) k before ys) life (n + 1)
-  lived_on model code code' same k span {m} {m'} {m''} calls answers default answer within listed lived done =
+module _ (bytes : ℕ) (room before ys : List ℕ) (n : ℕ) (fits : bytes * n + bytes ≤ length before) (ahead : drop (bytes * n) before ≡ drop (bytes * n) room) (wide : length ys ≡ bytes) where
+  abbrev part : List ℕ
+  part = take bytes (drop (bytes * n) before)
+
+  next : bytes * (n + 1) ≡ bytes * n + bytes
+  next = omega arith
+
+  -- the run with one more call
+  pub lived_on : {M : Type 0} (media : MediumGhosts M) (c : CodeModel) → bytes ≡ page_bytes c.message_len → {start m m' : M} (calls : List Call) (answers : List (Result ℕ Fault)) → n < length calls → n < length answers → (default : Call) (answer : Result ℕ Fault) (k : ℕ) → k ≡ bytes → Run media c start (take n calls) (take n answers) (take (bytes * n) room) (take (bytes * n) before) m → Does media c m m' (get_or calls n default) answer (take k (drop (bytes * n) before)) ys → Run media c start (take (n + 1) calls) (take (n + 1) (set answers n answer)) (take (bytes * (n + 1)) room) (take (bytes * (n + 1)) (put_mid (bytes * n) k before ys)) m'
+  lived_on media c whole {start} {m} {m'} calls answers listed within default answer k span run does =
       let call = get_or calls n default in
-      let part = subst (λ (x : ℕ). (step : Step (model code') m' m'') × Does call step answer (take x (drop (bytes * n) before)) ys) span done in
-      let step = subst (λ x. (step : Step (model x) m' m'') × Does call step answer (part_of bytes n before) ys) same part in
-      subst (λ (x : ℕ). (life : Life (model code) m m'') × Lived bytes calls (set answers n answer) room (put_mid (bytes * n) x before ys) life (n + 1)) (sym span)
-      (Life.goes_on lived.0 step.0, lived_more calls answers lived.0 step.0 call answer within (slice_get-get_or calls n default listed) step.1 lived.1)
+      let done = subst (λ (x : ℕ). Does media c m m' call answer (take x (drop (bytes * n) before)) ys) span does in
+      let long : length part ≡ bytes = length-take-le bytes (drop (bytes * n) before) (omega (arith, length-drop (bytes * n) before, fits)) in
+      let more = Run.goes_on run call answer part ys (long ∙ whole) done in
+      let parts : take (bytes * n) room ++ part ≡ take (bytes * (n + 1)) room =
+      ap (λ (xs : List ℕ). take (bytes * n) room ++ take bytes xs) ahead
+      ∙ sym (take-add (bytes * n) bytes room)
+      ∙ ap (λ (x : ℕ). take x room) (sym next) in
+      let filled : take (bytes * n) before ++ ys ≡ take (bytes * (n + 1)) (put_mid (bytes * n) k before ys) =
+      sym (take-put_mid (bytes * n) k before ys (bytes * (n + 1)) (next ∙ ap (λ (x : ℕ). bytes * n + x) (sym wide)) (omega (arith, fits))) in
+      moved media c _ _ _ _ _ _ _ _ (sym (take_more calls n default listed)) (sym (take_more_set answers n answer within)) parts filled more
 
   -- the room behind the part that was written
   pub ahead_more : (k : ℕ) → k ≡ bytes → drop (bytes * (n + 1)) (put_mid (bytes * n) k before ys) ≡ drop (bytes * (n + 1)) room
   ahead_more k span =
-      let next : bytes * (n + 1) ≡ bytes * n + bytes = omega arith in
-      drop-put_mid (bytes * n) k before ys (bytes * (n + 1)) (omega arith) fits (wide ∙ sym span)
-      ∙ ap (λ k. drop k before) next
+      drop-put_mid (bytes * n) k before ys (bytes * (n + 1)) (omega (arith, next)) (omega (arith, fits)) (wide ∙ sym span)
+      ∙ ap (λ (x : ℕ). drop x before) next
       ∙ sym (drop-drop bytes (bytes * n) before)
       ∙ ap (drop bytes) ahead
       ∙ drop-drop bytes (bytes * n) room
-      ∙ ap (λ k. drop k room) (sym next)
-
--- what a call does is a step of a life
-pub step_of : {c : CodeModel} {m m' : MediumModel} (call : Call) (answer : Result ℕ Fault) (part part' : List ℕ) → Answered call answer part part' m m' c → (step : Step c m m') × Does call step answer part part'
-step_of (Write page payload) answer part part' done = (Step.writes page payload.now answer done.0, (refl, refl, refl, done.1))
-step_of (Read page) answer part part' done = (Step.reads page part part' answer done, (refl, refl, refl, refl))
-step_of (Patrol page) answer part part' done = (Step.patrols page answer done.0, (refl, refl, done.1))
-step_of (Wear page cell state) answer part part' (r, done, told, same) = (Step.wears page cell state r done, (refl, refl, refl, same, told))
+      ∙ ap (λ (x : ℕ). drop x room) (sym next)
 
 module _ {M C : Type 0} (media : MediumGhosts M) (codes : CodeGhosts C) where
   -- what two calls in turn leave as it is
   pub kept_on : (m m' m'' : Memory M C) → Kept media codes m m' → Kept media codes m' m'' → Kept media codes m m''
-  kept_on m m' m'' k k' = record { lender = k'.lender ∙ k.lender; medium = k'.medium ∙ k.medium; code = k'.code ∙ k.code }
+  kept_on m m' m'' k k' =
+      record { lenders = k'.lenders ∙ k.lenders; order = k'.order ∙ k.order; medium = k'.medium ∙ k.medium; code = k'.code ∙ k.code }
 
   -- parts that are joined are joined after a call too
-  pub joined_on : (m m' : Memory M C) → LawfulMedium (media.model m.medium.now) → Lawful (codes.model m.code) → Joined media codes m → Kept media codes m m' → media.sound m'.medium.now → Step (codes.model m.code) (media.model m.medium.now) (media.model m'.medium.now) → Joined media codes m'
+  pub joined_on : (m m' : Memory M C) → LawfulMedium (media.model m.medium.now) → Lawful (codes.model m.code) → Joined media codes m → Kept media codes m m' → Sound media.refusal m'.medium.now → Step (codes.model m.code) (media.model m.medium.now) (media.model m'.medium.now) → Joined media codes m'
   joined_on m m' lm lc j k sound step =
       let c = codes.model m.code in
       let follows = life_follows c lc lm j.joins (Life.goes_on Life.begins step) in
       let joins = joins_on c lc (media.model m.medium.now) (media.model m'.medium.now) follows j.joins in
       record {
         medium = sound;
-        code = subst codes.sound (sym k.code) j.code;
+        code = subst (Sound codes.refusal) (sym k.code) j.code;
         joins = subst (λ (x : C). Joins (media.model m'.medium.now) (codes.model x)) (sym k.code) joins;
       }

@@ -1,2 +1,2 @@
-pub mod Lived
 pub mod Promises
+pub mod Runs

@@ -1,8 +1,9 @@
 // The calls of a list on a memory whose parts are joined.
 ghost use Rattle.std.specs.Prelude.{◌≡◌, ◌*◌, length};
-ghost use Rattle.memory_laws.specs.Lives.{Life};
+ghost use Rattle.memory_laws.specs.Payload.{page_bytes};
 ghost use Rattle.memories.specs.Promises.{Done, Joined, Kept};
-ghost use Rattle.lives.specs.Lived.{Answered, Lived};
+ghost use Rattle.lives.specs.Promises.{Lives};
+ghost use Rattle.lives.specs.Runs.{Answered, LeavesBeside, LeavesBytes};
 
 use crate::call::{Answer, Call};
 use codes::code::Code;
@@ -16,7 +17,12 @@ fn answer_call<M: Medium, C: Code>(
     room: &mut [u8],
 ) -> Answer
     requires { Joined M.Medium C.Code memory.old }
-    ensures done { Done M.Medium C.Code memory.old memory.new (Answered call.now result room.old room.new) }
+    ensures done { Done M.Medium C.Code memory.old memory.new
+        (Answered call.now result room.old room.new) }
+    ensures bytes { LeavesBytes M.Medium (C.Code.model memory.old.code)
+        memory.old.medium.now memory.new.medium.now call.now result }
+    ensures beside { LeavesBeside M.Medium (C.Code.model memory.old.code)
+        memory.old.medium.now memory.new.medium.now call.now result room.old }
     ensures kept { Kept M.Medium C.Code memory.old memory.new }
 {
     match *call {
@@ -39,9 +45,10 @@ pub(crate) fn answer_calls<M: Medium, C: Code>(
     room: &mut [u8],
 )
     requires joined { Joined M.Medium C.Code memory.old }
+    requires bytes { bytes ≡ page_bytes (C.Code.model memory.old.code).message_len }
     requires answers { length answers.old ≡ length calls.now }
     requires room { length room.old ≡ bytes * length calls.now }
-    ensures lived { (life : Life (C.Code.model memory.old.code) (M.Medium.model memory.old.medium.now) (M.Medium.model memory.new.medium.now)) × Lived bytes calls.now answers.new room.old room.new life (length calls.now) }
+    ensures lived { Lives M.Medium C.Code memory.old memory.new calls.now answers.new room.old room.new }
     ensures joined { Joined M.Medium C.Code memory.new }
     ensures kept { Kept M.Medium C.Code memory.old memory.new }
 {

@@ -5,3 +5,4 @@ pub mod call;
 mod calls;
 pub mod life;
 mod rooms;
+pub mod whole;

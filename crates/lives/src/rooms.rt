@@ -1,7 +1,7 @@
 // The room that a list of calls is lent.
 ghost use Rattle.std.specs.Prelude.{◌≡◌};
 ghost use Rattle.words.specs.Buffers.{checked};
-ghost use Rattle.lives.specs.Lived.{room_refusal};
+ghost use Rattle.lives.specs.Promises.{room_refusal};
 
 use words::fault::{Fault, Kind, Layer};
 

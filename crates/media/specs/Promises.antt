@@ -1,5 +1,5 @@
 -- What the calls of a sound medium answer, refusals, buffers and states included. Assumes nothing.
-use Rattle.std.specs.Prelude.{◌≡◌, ℕ, cond, true, ◌&&◌, List, [], ◌∷◌, map, Some, None, Ok, Err, is_err, Option, Result, MatchOption, MatchResult, nat_le, nat_lt, slice_set}
+use Rattle.std.specs.Prelude.{◌≡◌, ℕ, cond, ◌&&◌, List, [], ◌∷◌, map, Some, None, Ok, Err, Option, Result, MatchOption, nat_le, nat_lt, slice_set}
 use Rattle.words.specs.declared.fault.Fault.{Fault}
 use Rattle.words.specs.declared.fault.Kind.TheVariants.{PageOutOfRange, CellOutOfRange}
 use Rattle.words.specs.declared.fault.Layer.TheVariants.{Medium}
@@ -12,12 +12,6 @@ page_refusal m p = cond (nat_lt p m.pages) None (Some (fault PageOutOfRange Medi
 
 abbrev pub cell_refusal : MediumModel → ℕ → ℕ → Option Fault
 cell_refusal m i s = cond (nat_lt i m.breadth && nat_le s 2) None (Some (fault CellOutOfRange Medium i))
-
--- any call: a sound medium stays sound and does what is asked; one that is not refuses, and all stays
-pub record Called (Sound Sound' : Type 0) (Refuses : Fault → Type 0) (Done Stays : Type 0) (r : Result (Unit {0}) Fault) : Type 0 where
-  pub sound : Sound → Sound' × Done
-  pub unsound : (Sound → ⊥) → (is_err r ≡ true) × Stays
-  pub refused : (Sound → ⊥) → MatchResult r (λ _. ⊥) Refuses
 
 -- fetch: the cells of a page and their marks; nothing in the medium changes
 abbrev pub Fetched : MediumModel → MediumModel → ℕ → List ℕ → List ℕ → List ℕ → List ℕ → Result (Unit {0}) Fault → Type 0

@@ -4,13 +4,14 @@ ghost use Rattle.words.specs.declared.fault.Kind.TheVariants.{PageOutOfRange, Ce
 ghost use Rattle.words.specs.declared.fault.Layer.TheVariants.{Medium as the_medium};
 ghost use Rattle.words.specs.Buffers.{checked, refusal, values_below, written_to};
 ghost use Rattle.words.specs.Faults.{fault};
+ghost use Rattle.media_laws.specs.Lent.{in_range};
 
 use words::buffer::{Buffer, check_buffers};
 use words::fault::{Fault, Kind, Layer};
 pub use words::limits::{MOST_CELLS, MOST_PAGES};
 
 pub(crate) fn in_range(pages: usize, breadth: usize) -> bool
-    ensures { result ≡ ((nat_le 1 pages && nat_le pages 65535) && (nat_le 1 breadth && nat_le breadth 4096)) }
+    ensures { result ≡ in_range pages breadth }
 {
     (1..=MOST_PAGES).contains(&pages) && (1..=MOST_CELLS).contains(&breadth)
 }
@@ -26,7 +27,8 @@ pub fn check_page(page: usize, pages: usize) -> Result<(), Fault>
     }
 }
 
-pub(crate) fn check_cell(cell: usize, breadth: usize, state: u8) -> Result<(), Fault>
+/// Refuses a cell or a state that there is not.
+pub fn check_cell(cell: usize, breadth: usize, state: u8) -> Result<(), Fault>
     ensures { result ≡ checked (if nat_lt cell breadth && nat_le state 2 then None else Some (fault CellOutOfRange the_medium cell)) }
 {
     if cell < breadth && state <= 2 {
@@ -47,8 +49,8 @@ pub(crate) fn check_fetch(cells: &[u8], marks: &[u8], breadth: usize) -> Result<
     check_buffers(Layer::Medium, &buffers)
 }
 
-// The checks of put: cells of 0 and 1.
-pub(crate) fn check_put(cells: &[u8], breadth: usize) -> Result<(), Fault>
+/// The checks of put: cells of 0 and 1.
+pub fn check_put(cells: &[u8], breadth: usize) -> Result<(), Fault>
     ensures { result ≡ checked (refusal the_medium (values_below 2 breadth cells.now ∷ [])) }
 {
     let buffers = [Buffer::new(cells, breadth, 2)];

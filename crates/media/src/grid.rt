@@ -1,15 +1,14 @@
 // The grid: one byte a cell.
 // The grid and packed cells are two types over `checks` and `state`. One type over a layout would need a trait of layouts whose clauses say of
 // bytes what those of `Medium` say of pages.
-ghost use Rattle.std.specs.Prelude.{◌≡◌, ◌+◌, ◌*◌, ◌<◌, map, length, IfErr, MatchResult, slice_set};
-ghost use Rattle.words.specs.declared.fault.Kind.TheVariants.{UnfitMedium};
-ghost use Rattle.words.specs.declared.fault.Layer.TheVariants.{Medium as the_medium};
-ghost use Rattle.words.specs.Faults.{fault};
+ghost use Rattle.std.specs.Prelude.{◌≡◌, ◌+◌, ◌*◌, ◌<◌, [], ◌∷◌, map, length, MatchResult, slice_set};
+ghost use Rattle.std.proofs.Common.{sym, ◌∙◌};
+ghost use Rattle.words.specs.Buffers.{checked};
 ghost use Rattle.media_laws.specs.Grid.{GridFits, bytes_put, page_bytes, put_byte, put_bytes, state_of};
 ghost use Rattle.media_laws.specs.Model.{value_of, mark_of, Unchanged};
-ghost use Rattle.media.specs.Lent.{grid_of, GridSound, GridRefuses};
-ghost use Rattle.media.specs.Promises.{Called, Fetched, Put, Worn};
+ghost use Rattle.media.specs.Lent.{grid_of, grid_refusal, GridSound};
 ghost use Rattle.media_laws.proofs.Grids.{grid_lawful};
+ghost use Rattle.media_laws.proofs.Lent.{fits};
 
 use crate::checks::{check_cell, check_fetch, check_page, check_put, in_range};
 use crate::medium::Medium;
@@ -73,24 +72,34 @@ impl Grid<'_> {
 impl Medium for Grid<'_> {
     ghost model = { grid_of };
 
-    ghost sound = { GridSound };
+    ghost refusal = { grid_refusal };
 
-    ghost refuses = { GridRefuses };
+    ghost lenders = { λ g. g.bytes.ghost_name ∷ [] };
 
-    ghost lender = { λ g. g.bytes.ghost_name };
+    // each cell stands where the page has it
+    ghost order = { λ _. [] };
 
     ghost held = { λ g. g.bytes.now };
 
-    ghost puts = { λ breadth before after page cells. after ≡ bytes_put before breadth page cells };
+    ghost puts = { λ _ breadth before after page cells. after ≡ bytes_put before breadth page cells };
 
-    ghost wears = { λ breadth before after page cell state. after ≡ slice_set before (page * breadth + cell) state };
+    ghost wears = { λ _ breadth before after page cell state. after ≡ slice_set before (page * breadth + cell) state };
 
-    ghost lawful = { λ g fits. grid_lawful g.bytes.now g.pages g.breadth fits };
+    ghost beside = { λ _. [] };
+
+    ghost after_fetch = { λ _ kept. kept };
+
+    ghost after_put = { λ _ kept. kept };
+
+    ghost lawful = { λ g sound. grid_lawful g.bytes.now g.pages g.breadth (fits g.pages g.breadth (g.pages * g.breadth) g.bytes.now sound) };
+
+    ghost one_put = { λ _ breadth before after other page cells put put'. put' ∙ sym put };
+
+    ghost one_worn = { λ _ breadth before after other page cell state worn worn'. worn' ∙ sym worn };
 
     fn check(&self) -> Result<(), Fault>
-        ensures sound { MatchResult result (λ _. GridFits self.now.bytes.now self.now.pages self.now.breadth) (λ _. GridFits self.now.bytes.now self.now.pages self.now.breadth → ⊥) }
-        ensures fault { IfErr result (λ f. f ≡ fault UnfitMedium the_medium (length self.now.bytes.now)) }
-        ensures refused { IfErr result (GridRefuses self.now) }
+        ensures refusal { result ≡ checked (grid_refusal self.now) }
+        ensures fits { MatchResult result (λ _. GridSound self.now) (λ _. GridSound self.now → ⊥) }
     {
         let len = self.bytes.len();
         if in_range(self.pages, self.breadth) && len == self.pages * self.breadth {
@@ -100,11 +109,15 @@ impl Medium for Grid<'_> {
         }
     }
 
-    fn pages(&self) -> usize {
+    fn pages(&self) -> usize
+        ensures { result ≡ self.now.pages }
+    {
         self.pages
     }
 
-    fn breadth(&self) -> usize {
+    fn breadth(&self) -> usize
+        ensures { result ≡ self.now.breadth }
+    {
         self.breadth
     }
 

@@ -1,12 +1,14 @@
 // Packed cells: two bits a cell, its value and its mark.
-ghost use Rattle.std.specs.Prelude.{◌≡◌, ◌+◌, ◌-◌, ◌*◌, ◌/◌, ◌%◌, ◌^◌, ◌<◌, ◌≤◌, map, length, if◌then◌else◌, MatchResult, bit_and, bit_or, nat_eq};
+ghost use Rattle.std.specs.Prelude.{◌≡◌, [], ◌∷◌, ◌+◌, ◌-◌, ◌*◌, ◌/◌, ◌%◌, ◌^◌, ◌<◌, ◌≤◌, map, length, if◌then◌else◌, MatchResult, bit_and, bit_or, nat_eq};
 ghost use Rattle.std.specs.List.{range_with_len, AllByRecursion};
+ghost use Rattle.words.specs.Buffers.{checked};
 ghost use Rattle.media_laws.specs.Model.{value_of, mark_of, Unchanged};
 ghost use Rattle.media_laws.specs.Packed.{row_bytes, first_value, first_mark, bit_of, cell_of, cell_at, put_bit, BitSet, BitsPut, BitsWorn};
+ghost use Rattle.media_laws.proofs.Lent.{fits};
 ghost use Rattle.media_laws.proofs.Packs.{packed_lawful};
-ghost use Rattle.media.specs.Lent.{packed_of, PackedSound, PackedRefuses};
+ghost use Rattle.media_laws.proofs.Single.{one_put, one_worn};
+ghost use Rattle.media.specs.Lent.{packed_of, packed_refusal, Bytes, PackedSound};
 ghost use Rattle.media.specs.States.{number};
-ghost use Rattle.media.specs.Promises.{Called, Fetched, Put, Worn};
 
 use crate::checks::{check_cell, check_fetch, check_page, check_put, in_range};
 use crate::medium::Medium;
@@ -103,7 +105,8 @@ fn show(bytes: &[u8], first: Place, cells: &mut [u8], marks: &mut [u8])
 // Puts a value to a cell that is not blank.
 fn put_cell(bytes: &mut [u8], place: Place, cell: u8)
     requires { (place.value < 8 * length bytes.old) × ((place.mark < 8 * length bytes.old) × (cell < 2)) }
-    ensures { BitSet bytes.old bytes.new place.value (put_bit bytes.old place.value place.mark cell) }
+    ensures put { BitSet bytes.old bytes.new place.value (put_bit bytes.old place.value place.mark cell) }
+    ensures bytes { Bytes bytes.new }
 {
     if bit(bytes, place.mark) == 0 {
         set_bit(bytes, place.value, cell);
@@ -115,7 +118,8 @@ fn store(bytes: &mut [u8], first: Place, cells: &[u8])
     requires apart { first.value + length cells.now ≤ first.mark }
     requires within { (first.mark + length cells.now ≤ 8 * length bytes.old) × (length bytes.old < 2 ^ 60) }
     requires cells { AllByRecursion (λ v. v < 2) cells.now }
-    ensures { BitsPut bytes.old bytes.new first.value first.mark cells.now (length cells.now) }
+    ensures put { BitsPut bytes.old bytes.new first.value first.mark cells.now (length cells.now) }
+    ensures bytes { Bytes bytes.new }
 {
     for (i, cell) in cells.iter().enumerate() {
         put_cell(bytes, first.further(i), *cell);
@@ -124,7 +128,8 @@ fn store(bytes: &mut [u8], first: Place, cells: &[u8])
 
 fn wear_bits(bytes: &mut [u8], place: Place, state: State)
     requires { (place.value < place.mark) × (place.mark < 8 * length bytes.old) }
-    ensures { BitsWorn bytes.old bytes.new place.value place.mark (number state) }
+    ensures worn { BitsWorn bytes.old bytes.new place.value place.mark (number state) }
+    ensures bytes { Bytes bytes.new }
 {
     if state == State::Blank {
         set_bit(bytes, place.mark, 1);
@@ -169,21 +174,39 @@ impl Packed<'_> {
 impl Medium for Packed<'_> {
     ghost model = { packed_of };
 
-    ghost sound = { PackedSound };
+    ghost refusal = { packed_refusal };
 
-    ghost refuses = { PackedRefuses };
+    ghost lenders = { λ k. k.bytes.ghost_name ∷ [] };
 
-    ghost lender = { λ k. k.bytes.ghost_name };
+    // each cell stands where the page has it
+    ghost order = { λ _. [] };
 
     ghost held = { λ k. k.bytes.now };
 
-    ghost puts = { λ breadth before after page cells. BitsPut before after (first_value breadth page) (first_mark breadth page) cells breadth };
+    ghost puts = { λ _ breadth before after page cells.
+        BitsPut before after (first_value breadth page) (first_mark breadth page) cells breadth × Bytes after };
 
-    ghost wears = { λ breadth before after page cell state. BitsWorn before after (first_value breadth page + cell) (first_mark breadth page + cell) state };
+    ghost wears = { λ _ breadth before after page cell state.
+        BitsWorn before after (first_value breadth page + cell) (first_mark breadth page + cell) state × Bytes after };
 
-    ghost lawful = { λ k fits. packed_lawful k.bytes.now k.pages k.breadth fits };
+    ghost beside = { λ _. [] };
 
-    fn check(&self) -> Result<(), Fault> {
+    ghost after_fetch = { λ _ kept. kept };
+
+    ghost after_put = { λ _ kept. kept };
+
+    ghost lawful = { λ k sound. packed_lawful k.bytes.now k.pages k.breadth (fits k.pages k.breadth (k.pages * (2 * row_bytes k.breadth)) k.bytes.now sound) };
+
+    ghost one_put = { λ _ breadth before after other page cells put put'.
+        one_put before after other put.1 put'.1 (first_value breadth page) (first_mark breadth page) cells breadth put.0 put'.0 };
+
+    ghost one_worn = { λ _ breadth before after other page cell state worn worn'.
+        one_worn before after other worn.1 worn'.1 (first_value breadth page + cell) (first_mark breadth page + cell) state worn.0 worn'.0 };
+
+    fn check(&self) -> Result<(), Fault>
+        ensures refusal { result ≡ checked (packed_refusal self.now) }
+        ensures fits { MatchResult result (λ _. PackedSound self.now) (λ _. PackedSound self.now → ⊥) }
+    {
         let len = self.bytes.len();
         if in_range(self.pages, self.breadth) && len == self.pages * (2 * row_bytes(self.breadth)) {
             Ok(())
@@ -192,11 +215,15 @@ impl Medium for Packed<'_> {
         }
     }
 
-    fn pages(&self) -> usize {
+    fn pages(&self) -> usize
+        ensures { result ≡ self.now.pages }
+    {
         self.pages
     }
 
-    fn breadth(&self) -> usize {
+    fn breadth(&self) -> usize
+        ensures { result ≡ self.now.breadth }
+    {
         self.breadth
     }
 

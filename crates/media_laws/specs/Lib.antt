@@ -1,3 +1,4 @@
 pub mod Grid
+pub mod Lent
 pub mod Model
 pub mod Packed

@@ -1,7 +1,7 @@
 // Reads of a page of a medium that the code fits.
 // The room to work in is arrays, cut to length, since libraries use no heap.
-ghost use Rattle.memory_laws.specs.Calls.{Recalled, paged};
-ghost use Rattle.memories.specs.Promises.{Done, Holds, Joined, Kept};
+ghost use Rattle.memory_laws.specs.Calls.{Recalled, paged, payload_refusal};
+ghost use Rattle.memories.specs.Promises.{Done, Holds, Joined, Kept, LooksUnless};
 
 use crate::bits::gather;
 use crate::checks::check_call;
@@ -15,9 +15,12 @@ impl<M: Medium, C: Code> Memory<'_, M, C> {
     // Restores a page and fills the payload.
     pub(crate) fn recall(&mut self, page: usize, payload: &mut [u8]) -> Result<usize, Fault>
         requires { Joined M.Medium C.Code self.old }
-        ensures done { Done M.Medium C.Code self.old self.new (λ m m' c. Recalled m m' c page payload.old payload.new (paged result page)) }
+        ensures done { Done M.Medium C.Code self.old self.new
+            (λ m m' c. Recalled m m' c page payload.old payload.new (paged result page)) }
         ensures kept { Kept M.Medium C.Code self.old self.new }
         ensures bytes { Holds M.Medium C.Code self.old self.new }
+        ensures beside { LooksUnless M.Medium C.Code self.old self.new page
+            (payload_refusal (M.Medium.model self.old.medium.now) (C.Code.model self.old.code) page payload.old) }
     {
         let bits = self.code.message_len();
         let cells = self.code.len();

@@ -3,7 +3,7 @@
 ghost use Rattle.std.specs.Prelude.{◌≡◌, ◌<◌, replicate};
 ghost use Rattle.media_laws.specs.Model.{Unchanged};
 ghost use Rattle.memory_laws.specs.Calls.{Restored};
-ghost use Rattle.memories.specs.Promises.{Done, Holds, Joined, Kept};
+ghost use Rattle.memories.specs.Promises.{Done, Holds, Joined, Kept, Looks};
 
 use crate::bits::check_spare;
 use crate::memory::Memory;
@@ -24,9 +24,11 @@ impl<M: Medium, C: Code> Memory<'_, M, C> {
         requires page { page < (M.Medium.model self.old.medium.now).pages }
         requires message { message.old ≡ replicate (C.Code.model self.old.code).message_len 0 }
         requires word { word.old ≡ replicate (C.Code.model self.old.code).len 0 }
-        ensures done { Done M.Medium C.Code self.old self.new (λ m m' c. Unchanged m m' × Restored m c page message.new word.new result) }
+        ensures done { Done M.Medium C.Code self.old self.new
+            (λ m m' c. Unchanged m m' × Restored m c page message.new word.new result) }
         ensures kept { Kept M.Medium C.Code self.old self.new }
         ensures bytes { Holds M.Medium C.Code self.old self.new }
+        ensures beside { Looks M.Medium C.Code self.old self.new page }
     {
         let mut marks = [0; MOST_CELLS];
         let marks = &mut marks[..word.len()];

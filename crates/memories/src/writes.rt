@@ -2,7 +2,7 @@
 // The room to work in is arrays, cut to length, since libraries use no heap.
 ghost use Rattle.std.specs.Prelude.{MatchResult};
 ghost use Rattle.memory_laws.specs.Calls.{Written, paged, recording};
-ghost use Rattle.memories.specs.Promises.{Done, Holds, Joined, Kept, Puts};
+ghost use Rattle.memories.specs.Promises.{Done, Holds, Joined, Kept, Puts, PutsAndLooks, Stays};
 
 use crate::bits::{count_marks, spread};
 use crate::checks::check_call;
@@ -16,9 +16,14 @@ impl<M: Medium, C: Code> Memory<'_, M, C> {
     // Encodes a payload, puts the codeword, and counts the cells that are then blank.
     pub(crate) fn record(&mut self, page: usize, payload: &[u8]) -> Result<usize, Fault>
         requires { Joined M.Medium C.Code self.old }
-        ensures done { Done M.Medium C.Code self.old self.new (λ m m' c. Written m m' c page payload.now (paged result page)) }
+        ensures done { Done M.Medium C.Code self.old self.new
+            (λ m m' c. Written m m' c page payload.now (paged result page)) }
         ensures kept { Kept M.Medium C.Code self.old self.new }
-        ensures bytes { MatchResult result (λ _. Puts M.Medium C.Code self.old self.new page (recording (C.Code.model self.old.code) payload.now)) (λ _. Holds M.Medium C.Code self.old self.new) }
+        ensures bytes { MatchResult result
+            (λ _. Puts M.Medium C.Code self.old self.new page (recording (C.Code.model self.old.code) payload.now))
+            (λ _. Holds M.Medium C.Code self.old self.new) }
+        ensures beside { MatchResult result (λ _. PutsAndLooks M.Medium C.Code self.old self.new page)
+            (λ _. Stays M.Medium C.Code self.old self.new) }
     {
         let bits = self.code.message_len();
         let cells = self.code.len();

@@ -30,7 +30,7 @@ spare_zero k u clear bit l = at ∙ ⊎_elim inside past (cases_lt (bit - 8 * pa
     past h = get_or_past (drop (8 * page_bytes k) u) (bit - 8 * page_bytes k) 0 h
 
 module _ (c : CodeModel) (lc : Lawful c) (m : MediumModel) (h : LawfulMedium m) (j : Joins m c) (p : ℕ) (within : p < m.pages) where
-  only : (u v : List ℕ) → Near c (word_of m p) (marks_of m p) u → Near c (word_of m p) (marks_of m p) v → v ≡ u
+  pub only : (u v : List ℕ) → Near c (word_of m p) (marks_of m p) u → Near c (word_of m p) (marks_of m p) v → v ≡ u
   only u v nu nv =
       let page = (h.states p within).0 ∙ sym j.same_length in
       only_one_near c lc (word_of m p) (marks_of m p) (length-map (m.page p) value_of ∙ page) (length-map (m.page p) mark_of ∙ page) v u nv nu

@@ -6,5 +6,6 @@ pub mod Lives
 pub mod Outcomes
 pub mod Payloads
 pub mod Restoring
+pub mod Single
 pub mod Spelling
 pub mod Steps

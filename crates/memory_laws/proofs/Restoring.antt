@@ -11,7 +11,7 @@ use Rattle.words.specs.declared.fault.Layer.TheVariants.{Code}
 use Rattle.words.specs.Buffers.{written_to}
 use Rattle.words.specs.Faults.{fault}
 use Rattle.words.proofs.Passes.{none_from_fits}
-use Rattle.codes.specs.Model.{CodeModel, Lawful, Message, Near}
+use Rattle.codes.specs.Model.{Beside, CodeModel, Lawful, Message, Near}
 use Rattle.codes.specs.Promises.{Corrected, Recovered, symbols_of, marks_of}
 use Rattle.media_laws.specs.Model.{MediumModel, LawfulMedium, value_of, mark_of, stored, Unchanged, Changed}
 use Rattle.media.specs.Promises.{Fetched, Put, page_refusal}
@@ -43,12 +43,16 @@ module _ (m m' : MediumModel) (c : CodeModel) (lm : LawfulMedium m) (lc : Lawful
       fetch_accepts m m' p word marks word' marks' r within word-clear.0 word-clear.1 marks-clear.0 marks-clear.1 w
 
   -- a fetched page is a word of the code beside its marks
-  pub corrects : (word marks word' : List ℕ) (r : Result ℕ Fault) → word ≡ word_of m p → marks ≡ calls.marks_of m p → Corrected c word marks word' r → results.MatchResult r (λ h. (u : List ℕ) × Near c (word_of m p) (calls.marks_of m p) u × (word' ≡ c.codeword u) × (h ≡ page_harm m p (c.codeword u))) (λ f. (place : ℕ) × c.Blames (word_of m p) (calls.marks_of m p) place × (f ≡ fault NoCodeword Code place) × ((u : List ℕ) → Near c (word_of m p) (calls.marks_of m p) u → ⊥))
-  corrects word marks word' r ew em w =
+  pub page_beside : Beside c (word_of m p) (calls.marks_of m p)
+  page_beside =
       let page = lm.states p within in
       let long = page.0 ∙ sym j.same_length in
       let symbols = subst (λ (x : ℕ). AllByRecursion (λ v. v < 2 ^ x) (word_of m p)) (sym j.bits) (values_small (m.page p) page.1) in
-      let none = none_from_fits Code (symbols_of c c.len (word_of m p) ∷ marks_of c.len (calls.marks_of m p) ∷ []) ((length-map (m.page p) value_of ∙ long, symbols), ((length-map (m.page p) mark_of ∙ long, marks_small (m.page p)), tt)) in
+      ((length-map (m.page p) value_of ∙ long, symbols), (length-map (m.page p) mark_of ∙ long, marks_small (m.page p)))
+
+  pub corrects : (word marks word' : List ℕ) (r : Result ℕ Fault) → word ≡ word_of m p → marks ≡ calls.marks_of m p → Corrected c word marks word' r → results.MatchResult r (λ h. (u : List ℕ) × Near c (word_of m p) (calls.marks_of m p) u × (word' ≡ c.codeword u) × (h ≡ page_harm m p (c.codeword u))) (λ f. (place : ℕ) × c.Blames (word_of m p) (calls.marks_of m p) place × (f ≡ fault NoCodeword Code place) × ((u : List ℕ) → Near c (word_of m p) (calls.marks_of m p) u → ⊥))
+  corrects word marks word' r ew em w =
+      let none = none_from_fits Code (symbols_of c c.len (word_of m p) ∷ marks_of c.len (calls.marks_of m p) ∷ []) (page_beside.0, (page_beside.1, tt)) in
       let told = MatchOption-at_none _ _ none (subst₂ (λ (xs ys : List ℕ). Corrected c xs ys word' r) ew em w) in
       by r told
     where

@@ -1,5 +1,5 @@
 -- What the calls of a memory answer: a code joined to a medium. Assumes nothing.
-use Rattle.std.specs.Prelude.{◌≡◌, ℕ, ◌≤◌, ◌⊎◌, List, [], ◌∷◌, map, Ok, Err, count_by, Option, Result, nat_eq, slice_set}
+use Rattle.std.specs.Prelude.{◌≡◌, ℕ, ◌≤◌, ◌&&◌, ◌⊎◌, cond, List, [], ◌∷◌, map, Some, None, Ok, Err, count_by, Option, Result, ◌==◌, nat_eq, nat_le, slice_set}
 use Rattle.std.specs.Option as options
 use Rattle.std.specs.Result as results
 use Rattle.words.specs.declared.fault.Fault.{Fault}
@@ -19,12 +19,24 @@ pub record Joins (m : MediumModel) (c : CodeModel) : Type 0 where
   pub same_length : c.len ≡ m.breadth
   pub some_byte : 1 ≤ page_bytes c.message_len
 
--- why a memory's call looks at no page: an unsound medium's own refusal, then an unsound code's own, then 19 where the two do not join
-abbrev pub Unjoined : Type 0 → (Fault → Type 0) → Type 0 → (Fault → Type 0) → Type 0 → Fault → Type 0
-Unjoined MediumSound MediumRefuses CodeSound CodeRefuses Joined f =
-    ((MediumSound → ⊥) × MediumRefuses f)
-    ⊎ ((MediumSound × (CodeSound → ⊥) × CodeRefuses f)
-    ⊎ (MediumSound × CodeSound × (Joined → ⊥) × (f ≡ fault UnfitMemory Memory 0)))
+-- 19 where they do not join
+abbrev pub unfit : MediumModel → CodeModel → Option Fault
+unfit m c =
+    cond (((c.width == 1) && (c.len == m.breadth)) && nat_le 1 (page_bytes c.message_len)) None
+    (Some (fault UnfitMemory Memory 0))
+
+-- a refusal that is due, with the page added
+abbrev pub at_page : Option Fault → ℕ → Option Fault
+at_page None p = None
+at_page (Some f) p = Some (on_page f p)
+
+-- what refuses a memory: its parts' own refusal, and then 19
+abbrev pub join_refusal : MediumModel → CodeModel → (parts : Option Fault) → Option Fault
+join_refusal m c parts = either parts (unfit m c)
+
+-- and its call on a page: its parts' own refusal with the page added, and then 19, which names none
+abbrev pub call_refusal : MediumModel → CodeModel → (parts : Option Fault) → (page : ℕ) → Option Fault
+call_refusal m c parts p = either (at_page parts p) (unfit m c)
 
 -- the answer of a call with the page added to its fault
 abbrev pub paged : {X : Type 0} → Result X Fault → ℕ → Result X Fault
@@ -102,3 +114,15 @@ WornPage m m' p i s r =
     options.MatchOption (either (page_refusal m p) (cell_refusal m i s))
     ((r ≡ Ok tt) × Changed m m' p (slice_set (m.page p) i s))
     (λ f. (r ≡ Err (on_page f p)) × Unchanged m m')
+
+-- a read leaves one answer and one payload
+abbrev pub OneRead : MediumModel → CodeModel → ℕ → (payload : List ℕ) → Type 0
+OneRead m c p payload =
+    (m' m'' : MediumModel) (x x' : List ℕ) (r r' : Result ℕ Fault)
+    → Recalled m m' c p payload x r → Recalled m m'' c p payload x' r' → (x' ≡ x) × (r' ≡ r)
+
+-- and a patrol one answer and one state of each page
+abbrev pub OnePatrol : MediumModel → CodeModel → ℕ → Type 0
+OnePatrol m c p =
+    (m' m'' : MediumModel) (r r' : Result ℕ Fault)
+    → Patrolled m m' c p r → Patrolled m m'' c p r' → (r' ≡ r) × Unchanged m' m''

@@ -54,7 +54,7 @@ fn spare_bits(rt: HostRuntime) -> Result<(), Fail> {
     Ok(())
 }
 
-// What is refused before a page is looked at names no page.
+// A code that does not fit names no page, and a medium that is not sound names that of the call.
 #[test]
 fn unfit(rt: HostRuntime) -> Result<(), Fail> {
     let mut bytes = [0; 8];
@@ -70,8 +70,10 @@ fn unfit(rt: HostRuntime) -> Result<(), Fail> {
     let unfit = Fault::new(Kind::UnfitMemory, Layer::Memory, 0);
     assert_eq!(rt; memory.patrol(0), Err(unfit));
     memory.medium.breadth = 17;
-    let short = Fault::new(Kind::UnfitMedium, Layer::Medium, 8);
-    assert_eq!(rt; memory.patrol(0), Err(short));
+    let short = refused(Kind::UnfitMedium, Layer::Medium, 8, 1);
+    assert_eq!(rt; memory.patrol(1), Err(short));
+    let whole = Fault::new(Kind::UnfitMedium, Layer::Medium, 8);
+    assert_eq!(rt; memory.check_join(), Err(whole));
     Ok(())
 }
 

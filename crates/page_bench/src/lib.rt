@@ -2,6 +2,7 @@
 #![tactic(auto)]
 
 use codes::code::Code;
+use nests::deep::{Errand, through_twelve};
 use recipe_piles::making::pile_of;
 use recipe_piles::parts::RecipePile;
 use recipes::recipe::Recipe;
@@ -48,4 +49,15 @@ pub extern "C" fn page_encode(recipe: &[u8], message: &[u8], word: &mut [u8]) ->
 #[unsafe(no_mangle)]
 pub extern "C" fn page_correct(recipe: &[u8], word: &mut [u8], marks: &[u8]) -> usize {
     correct(recipe, word, marks).unwrap_or(10000)
+}
+
+/// The same of a pile twelve levels deep.
+#[unsafe(no_mangle)]
+pub extern "C" fn nest_encode(message: &[u8], word: &mut [u8]) -> bool {
+    through_twelve(Errand::Encode { message, word }).is_ok()
+}
+
+#[unsafe(no_mangle)]
+pub extern "C" fn nest_correct(word: &mut [u8], marks: &[u8]) -> usize {
+    through_twelve(Errand::Correct { word, marks }).unwrap_or(10000)
 }

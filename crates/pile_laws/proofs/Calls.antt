@@ -20,10 +20,10 @@ use Rattle.codes.specs.Promises.{Encoded, Recovered}
 use Rattle.codes.proofs.Working.{encode_buffers, message_of_buffers}
 
 -- a number of a stage that there is
-pub stage_number : (S : Type 0) (h : ChainModel) (number : ℕ → ℕ) (i x : ℕ) → S → Stage h i → OfStage S h number i (Ok x) → x ≡ number i
-stage_number S h number i x s st of =
+pub stage_number : (h : ChainModel) (number : ℕ → ℕ) (i x : ℕ) → Stage h i → OfStage h number i (Ok x) → x ≡ number i
+stage_number h number i x st of =
     let none : stage_refusal h.stages i ≡ None = cond-true (leb 1 i && leb i h.stages) _ _ (and_from _ _ (le-leb 1 i st.0) (le-leb i h.stages st.1)) in
-    let is : Ok x ≡ answered none_due (number i) = of.0 s ∙ ap (λ due. answered due (number i)) none in
+    let is : Ok x ≡ answered none_due (number i) = of ∙ ap (λ due. answered due (number i)) none in
     cc
   where
     none_due : Option Fault
@@ -64,16 +64,15 @@ module _ (h : ChainModel) (law : LawfulChain h) where
   narrow_before us few k low high = law.few_width k (low, omega arith)
 
   -- word-of fills the cells with the word of a row
-  pub worded_answer : (S : Type 0) (labels cells after : List ℕ) (r : Result (Unit {0}) Fault) → S → Row h labels → length cells ≡ h.breadth → AllByRecursion (λ x. x < 256) cells → Worded S h labels cells r after → (r ≡ Ok tt) × (after ≡ h.word labels)
-  worded_answer S labels cells after r s row lc ac w =
+  pub worded_answer : (labels cells after : List ℕ) (r : Result (Unit {0}) Fault) → Row h labels → length cells ≡ h.breadth → AllByRecursion (λ x. x < 256) cells → Worded h labels cells r after → (r ≡ Ok tt) × (after ≡ h.word labels)
+  worded_answer labels cells after r row lc ac w =
       let sizes : refusal Chain (sized h.stages labels ∷ sized h.breadth cells ∷ []) ≡ None = none_from_fits Chain (sized h.stages labels ∷ sized h.breadth cells ∷ []) ((row.0, labels_bytes h.width 1 labels (narrow_before labels (omega (arith, row.0))) row.1), ((lc, ac), tt)) in
       let none : word_refusal h.breadth h.stages h.width labels cells ≡ None = both_none (refusal Chain (sized h.stages labels ∷ sized h.breadth cells ∷ [])) (large_label h.width 0 labels) sizes (none_large h.width 0 labels row.1) in
-      let p = w.0 s in
-      (p.0 ∙ ap checked none, p.1 ∙ ap (λ due. kept_or due cells (h.word labels)) none)
+      (w.0 ∙ ap checked none, w.1 ∙ ap (λ due. kept_or due cells (h.word labels)) none)
 
   -- estimate answers what its meaning gives
-  pub estimated_answer : (S : Type 0) (i : ℕ) (labels cells marks : List ℕ) (r : Result (Option Estimate) Fault) → S → Stage h i → length labels ≡ i - 1 → LabelsFrom h.width 1 labels → Cells h.breadth cells → Cells h.breadth marks → Estimated S h i labels cells marks r → MatchResult r (Estimates h i labels cells marks) (λ _. ⊥)
-  estimated_answer S i labels cells marks r s st ll fl fc fm e =
+  pub estimated_answer : (i : ℕ) (labels cells marks : List ℕ) (r : Result (Option Estimate) Fault) → Stage h i → length labels ≡ i - 1 → LabelsFrom h.width 1 labels → Cells h.breadth cells → Cells h.breadth marks → Estimated h i labels cells marks r → MatchResult r (Estimates h i labels cells marks) (λ _. ⊥)
+  estimated_answer i labels cells marks r st ll fl fc fm e =
       let byte : (xs : List ℕ) → AllByRecursion (λ x. x < 2) xs → AllByRecursion (λ x. x < 256) xs = λ xs a. All-weaker (λ x. x < 2) (λ x. x < 256) (λ x l. omega arith) xs a in
       let stage : stage_refusal h.stages i ≡ None = cond-true (leb 1 i && leb i h.stages) _ _ (and_from _ _ (le-leb 1 i st.0) (le-leb i h.stages st.1)) in
       let row = sized (i - 1) labels ∷ sized h.breadth cells ∷ sized h.breadth marks ∷ [] in
@@ -82,7 +81,7 @@ module _ (h : ChainModel) (law : LawfulChain h) where
       let reading = binary h.breadth cells ∷ binary h.breadth marks ∷ [] in
       let bits : refusal Chain reading ≡ None = none_from_fits Chain reading (fc, (fm, tt)) in
       let none : estimate_refusal h.breadth h.stages h.width i labels cells marks ≡ None = both_none (stage_refusal h.stages i) _ stage (both_none (refusal Chain row) _ sizes (both_none (large_label h.width 0 labels) _ large bits)) in
-      subst (λ (due : Option Fault). Answered due (Estimates h i labels cells marks) r) none (e.0 s)
+      subst (λ (due : Option Fault). Answered due (Estimates h i labels cells marks) r) none e
 
 -- harm is measured on words of one length and marks of 0 and 1
 pub harm_answer : (layer : Layer) (word marks v : List ℕ) → length word ≤ 4096 → length marks ≡ length word → length v ≡ length word → AllByRecursion (λ m. m < 2) marks → AllByRecursion (λ x. x < 256) word → AllByRecursion (λ x. x < 256) v → answered (refusal layer (harm_buffers word marks v)) (harm word marks v) ≡ Ok (harm word marks v)
@@ -90,10 +89,10 @@ harm_answer layer word marks v short lm lv small bw bv =
     let places : length word ≡ min (length word) 4096 = omega arith in
     ap (λ due. answered due (harm word marks v)) (none_from_fits layer (harm_buffers word marks v) ((places, bw), ((lm ∙ places, small), ((lv ∙ places, bv), tt))))
 
-pub stage_never : (S : Type 0) (h : ChainModel) (number : ℕ → ℕ) (i : ℕ) (f : Fault) → S → Stage h i → OfStage S h number i (Err f) → ⊥
-stage_never S h number i f s st of =
+pub stage_never : (h : ChainModel) (number : ℕ → ℕ) (i : ℕ) (f : Fault) → Stage h i → OfStage h number i (Err f) → ⊥
+stage_never h number i f st of =
     let none : stage_refusal h.stages i ≡ None = cond-true (leb 1 i && leb i h.stages) _ _ (and_from _ _ (le-leb 1 i st.0) (le-leb i h.stages st.1)) in
-    let is : Err f ≡ Ok (number i) = of.0 s ∙ ap (λ due. answered due (number i)) none in
+    let is : Err f ≡ Ok (number i) = of ∙ ap (λ due. answered due (number i)) none in
     let z : ◌≡◌ {A = ℕ} 0 1 = cc in
     omega arith
 

@@ -15,6 +15,7 @@ use Rattle.pile_laws.specs.Stages.{no_code}
 use Rattle.pile_laws.proofs.Columns.{row_word, differences_total, differences_laid}
 use Rattle.pile_laws.proofs.Fitting.{Fitting, fitting, fitting_at, fitting_length, lawful_at}
 use Rattle.pile_laws.proofs.Messages.{EachMessage, stage_messages_are, bits_again}
+use Rattle.pile_laws.proofs.OnePlace.{one_place}
 use Rattle.pile_laws.proofs.Reach.{reach_each, some_reach}
 use Rattle.pile_laws.proofs.Rows.{WordsOf, encoded_at, encoded_words, label_at, labels_before, laid_cells, length_encoded, row_at}
 use Rattle.pile_laws.proofs.Widths.{message_fits}
@@ -121,6 +122,7 @@ module _ (h : ChainModel) (law : LawfulChain h) (cs : List CodeModel) (laws : Ea
             let all = many (stage_messages cs u) eu in
             laid_cells h (columns cs) cs fit (stage_words cs u) (words_of (stage_messages cs u) eu) (omega (arith, all)) law all (columns cs) 0 (omega arith);
         apart = apart;
+        one_place = λ word marks beside. one_place h law cs laws fits word marks beside.0.0 beside.1.0;
       }
     where
       some_bits : (cs : List CodeModel) → 0 < length cs → EachLawful cs → 1 ≤ total_bits cs

@@ -9,6 +9,7 @@ pub mod Flat
 pub mod Law
 pub mod Messages
 pub mod Near
+pub mod OnePlace
 pub mod Outcomes
 pub mod Reach
 pub mod Recovery

@@ -13,8 +13,7 @@ use Rattle.chains.specs.Model.{ChainModel, LawfulChain, Row, Stage, before, at_s
 use Rattle.chains.specs.Promises.{Estimates}
 use Rattle.chains.specs.FromLaw.{two_rows}
 use Rattle.codes.specs.Model.{CodeModel, Lawful, Message, Near}
-use Rattle.stage_laws.specs.Rule.{Chosen, OneChoice, Within, score, score_at}
-use Rattle.stage_laws.proofs.OneChoice.{one_choice}
+use Rattle.stage_laws.specs.Rule.{Chosen, score, score_at}
 use Rattle.pile_laws.specs.Build.{columns, labels_at, laid, reach, stage_messages, stage_words}
 use Rattle.pile_laws.specs.Fit.{EachLawful, Fits}
 use Rattle.pile_laws.specs.Pile.{pile}
@@ -23,13 +22,9 @@ use Rattle.pile_laws.proofs.Columns.{column_harm, harm_laid, length_column, scor
 use Rattle.pile_laws.proofs.Fitting.{Fitting, code_after, fitting, fitting_at, lawful_at}
 use Rattle.pile_laws.proofs.Law.{messages, many, row_length, words_of}
 use Rattle.pile_laws.proofs.Messages.{EachMessage}
+use Rattle.pile_laws.proofs.OnePlace.{one_here, stage}
 use Rattle.pile_laws.proofs.Reach.{reach_each}
 use Rattle.pile_laws.proofs.Rows.{encoded_at, label_at, labels_before, row_at}
-
--- an estimate's harm is below the distance
-pub estimate_within : (h : ChainModel) (i : ℕ) (labels cells marks : List ℕ) (e : Option Estimate) → Estimates h i labels cells marks e → Within (h.distance i) e
-estimate_within h i labels cells marks None est = tt
-estimate_within h i labels cells marks (Some e) est = est.4
 
 -- a row that begins with the decided labels scores no more in its column than its harm
 column_score : (h : ChainModel) (law : LawfulChain h) (i : ℕ) (u cells marks : List ℕ) (e : Option Estimate) → Stage h i → Row h u → length cells ≡ h.breadth → length marks ≡ h.breadth → Estimates h i (before i u) cells marks e → score_at (h.distance i) e (at_stage u i) ≤ harm cells marks (h.word u)
@@ -53,23 +48,8 @@ module _ (h : ChainModel) (law : LawfulChain h) (cs : List CodeModel) (laws : Ea
   fit = (fitting h cs fits).0
 
   module _ (chosen : List (List ℕ)) (few : length chosen < length cs) where
-    lawful : Lawful (code_at cs (suc (length chosen)))
-    lawful = subst (λ (c : CodeModel). Lawful c) (sym (code_after cs (length chosen))) (lawful_at (length chosen) cs few laws)
-
-    long : (code_at cs (suc (length chosen))).len ≡ columns cs
-    long = ap (λ (c : CodeModel). c.len) (code_after cs (length chosen)) ∙ (fitting_at h (columns cs) 1 (length chosen) cs few fit).2
-
-    stage : Stage h (suc (length chosen))
-    stage = (omega arith, omega (arith, (fitting_at h (columns cs) 1 (length chosen) cs few fit).0))
-
     pub reach_here : reach h cs ≤ h.distance (suc (length chosen)) * (code_at cs (suc (length chosen))).distance
     reach_here = subst (λ (c : CodeModel). reach h cs ≤ h.distance (suc (length chosen)) * c.distance) (sym (code_after cs (length chosen))) (reach_each h (length chosen) cs few)
-
-    pub estimates_within : (es : List (Option Estimate)) → ColumnEstimates h cs word marks chosen es → AllByRecursion (Within (h.distance (suc (length chosen)))) es
-    estimates_within es est = All-from_get_or (Within (h.distance (suc (length chosen)))) es None (λ j l. estimate_within h _ _ (column h.breadth j word) (column h.breadth j marks) (get_or es j None) (est.1 j (omega (arith, est.0))))
-
-    pub one_here : (es : List (Option Estimate)) → ColumnEstimates h cs word marks chosen es → OneChoice (code_at cs (suc (length chosen))) (h.distance (suc (length chosen))) es
-    one_here es est = one_choice (code_at cs (suc (length chosen))) lawful (h.distance (suc (length chosen))) es (est.0 ∙ sym long) (estimates_within es est)
 
     module _ (u : List ℕ) (near : Near (pile h cs) word marks u) (begun : chosen ≡ take (length chosen) (stage_words cs u)) where
       eu : EachMessage cs (stage_messages cs u)
@@ -102,7 +82,7 @@ module _ (h : ChainModel) (law : LawfulChain h) (cs : List CodeModel) (laws : Ea
           let label : at_stage (labels_at (stage_words cs u) j) (suc k) ≡ get_or w j 0 = ap (λ (m : ℕ). get_or (labels_at (stage_words cs u) j) m 0) here ∙ label_at (stage_words cs u) k j (omega (arith, all)) in
           let lc = length_column h.breadth j (columns cs) word lw l in
           let lk = length_column h.breadth j (columns cs) marks lm l in
-          subst (λ (x : ℕ). score_at d (get_or es j None) x ≤ column_harm h (stage_words cs u) h.breadth word marks j) label (column_score h law (suc k) (labels_at (stage_words cs u) j) (column h.breadth j word) (column h.breadth j marks) (get_or es j None) stage row lc lk (subst (λ (ls : List ℕ). Estimates h (suc k) ls (column h.breadth j word) (column h.breadth j marks) (get_or es j None)) decided (est.1 j l))) in
+          subst (λ (x : ℕ). score_at d (get_or es j None) x ≤ column_harm h (stage_words cs u) h.breadth word marks j) label (column_score h law (suc k) (labels_at (stage_words cs u) j) (column h.breadth j word) (column h.breadth j marks) (get_or es j None) (stage h law cs laws fits word marks lw lm chosen few) row lc lk (subst (λ (ls : List ℕ). Estimates h (suc k) ls (column h.breadth j word) (column h.breadth j marks) (get_or es j None)) decided (est.1 j l))) in
           let sum = total_le (λ j. score_at d (get_or es j None) (get_or w j 0)) (column_harm h (stage_words cs u) h.breadth word marks) (columns cs) each in
           let scored = score_total d es w (columns cs) est.0 (of k (omega (arith, all))).0 in
           let harmed = harm_laid h (stage_words cs u) h.breadth word marks (columns cs) lw lm (row_length h law cs laws fits (stage_messages cs u) eu) in
@@ -111,7 +91,7 @@ module _ (h : ChainModel) (law : LawfulChain h) (cs : List CodeModel) (laws : Ea
       -- so the choice is the codeword's own
       pub next_own : (w : List ℕ) → NextChoice h cs word marks chosen w → w ≡ get_or (stage_words cs u) (length chosen) []
       next_own w (es, est, (v, picked, is)) =
-          is ∙ ap (code_at cs (suc (length chosen))).codeword (one_here es est v own_message picked (own_chosen es est)) ∙ own_word.0
+          is ∙ ap (code_at cs (suc (length chosen))).codeword (one_here h law cs laws fits word marks lw lm chosen few es est v own_message picked (own_chosen es est)) ∙ own_word.0
 
       pub never_none : NoChoice h cs word marks chosen → ⊥
       never_none none = none.2 own_message (own_chosen none.0 none.1)

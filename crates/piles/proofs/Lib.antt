@@ -1,1 +1,1 @@
-pub mod Unsound
+pub mod Checks

@@ -6,26 +6,30 @@ use Rattle.words.specs.declared.fault.Layer.TheVariants.{Code}
 use Rattle.words.specs.Faults.{fault}
 use Rattle.words.specs.Harm.{harm}
 use Rattle.chains.specs.declared.chain.Estimate.{Estimate}
+use Rattle.chains.specs.declared.chain.Chain.{Ghosts as ChainGhosts}
 use Rattle.chains.specs.Model.{Cells, ChainModel}
 use Rattle.chains.specs.Promises.{Estimates}
+use Rattle.codes.specs.declared.code.Code.{Ghosts as CodeGhosts}
 use Rattle.codes.specs.Model.{CodeModel, Message}
 use Rattle.pile_laws.specs.Build.{columns, labels_at, laid, reach}
 use Rattle.pile_laws.specs.Flat.{words_in}
 use Rattle.pile_laws.specs.Pile.{GivesUp, pile}
 use Rattle.pile_laws.proofs.Outcomes.{EncodedAt}
 use Rattle.pile_laws.specs.Stages.{Choices, NextChoice, NoChoice, column}
-use Rattle.piles.specs.Sound.{SoundPile}
+use Rattle.piles.specs.declared.choices.Search.{Search}
+use Rattle.piles.specs.Sound.{SoundParts}
 
 -- a word and its marks, over so many columns of the chain's cells
 abbrev pub ReadWord : ChainModel → ℕ → (word marks : List ℕ) → Type 0
 ReadWord h n word marks = Cells (h.breadth * n) word × Cells (h.breadth * n) marks
 
 -- what a search is handed: parts that are sound and fit, the columns that they have, and a word of theirs with its marks
-pub record Searched {A : Type 0} (S : Type 0) (h : ChainModel) (model : A → CodeModel) (sound : A → Type 0) (codes : List A) (n : ℕ) (word marks : List ℕ) : Type 0 where
-  pub parts : SoundPile S h model sound codes
-  pub columns : n ≡ columns (map model codes)
-  pub few : n ≤ 4096
-  pub reads : ReadWord h n word marks
+module _ {H A : Type 0} (chains : ChainGhosts H) (codes : CodeGhosts A) where
+  pub record Searched (s : Search H A) : Type 0 where
+    pub parts : SoundParts chains codes s.chain.now s.codes.now
+    pub columns : s.columns ≡ columns (map codes.model s.codes.now)
+    pub few : s.columns ≤ 4096
+    pub reads : ReadWord (chains.model s.chain.now) s.columns s.word.now s.marks.now
 
 -- the estimates of all columns, after k stages
 abbrev pub EstimatedColumns : ChainModel → (n k : ℕ) → (row word marks : List ℕ) → List (Option Estimate) → Type 0

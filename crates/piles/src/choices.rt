@@ -3,6 +3,7 @@ ghost use Rattle.std.specs.Prelude.{◌≡◌, ℕ, suc, ◌*◌, ◌<◌, ◌�
 ghost use Rattle.words.specs.declared.fault.Kind.TheVariants.{NoCodeword};
 ghost use Rattle.words.specs.declared.fault.Layer.TheVariants.{Code as the_code};
 ghost use Rattle.words.specs.Faults.{fault};
+ghost use Rattle.words.specs.Soundness.{Sound};
 ghost use Rattle.chains.specs.Model.{Cells, LabelsFrom, Stage};
 ghost use Rattle.chains.specs.Promises.{Estimates};
 ghost use Rattle.pile_laws.specs.Build.{labels_at};
@@ -30,7 +31,7 @@ fn estimate_column<H: Chain>(
     cells: &[u8],
     marks: &[u8],
 ) -> Result<Option<Estimate>, Fault>
-    requires chain { (H.Chain.sound chain.now) × ((Stage (H.Chain.model chain.now) (suc chosen)) × ((Cells (H.Chain.model chain.now).breadth cells.now) × (Cells (H.Chain.model chain.now).breadth marks.now))) }
+    requires chain { (Sound H.Chain.refusal chain.now) × ((Stage (H.Chain.model chain.now) (suc chosen)) × ((Cells (H.Chain.model chain.now).breadth cells.now) × (Cells (H.Chain.model chain.now).breadth marks.now))) }
     requires words { (j < columns) × ((columns * chosen ≤ length words.now) × (LabelsFrom (H.Chain.model chain.now).width 1 (labels_at (words_in columns chosen words.now) j))) }
     ensures { MatchResult result (λ e. Estimates (H.Chain.model chain.now) (suc chosen) (labels_at (words_in columns chosen words.now) j) cells.now marks.now e) (λ _. ⊥) }
 {
@@ -58,7 +59,7 @@ impl<H: Chain, A: Code> Search<'_, H, A> {
         words: &[u8],
         estimates: &mut [Option<Estimate>],
     ) -> Result<(), Fault>
-        requires chain { (H.Chain.sound self.now.chain.now) × (Stage (H.Chain.model self.now.chain.now) (suc chosen)) }
+        requires chain { (Sound H.Chain.refusal self.now.chain.now) × (Stage (H.Chain.model self.now.chain.now) (suc chosen)) }
         requires word { ReadWord (H.Chain.model self.now.chain.now) self.now.columns self.now.word.now self.now.marks.now }
         requires words { (self.now.columns * chosen ≤ length words.now) × (((j : ℕ) → j < self.now.columns → LabelsFrom (H.Chain.model self.now.chain.now).width 1 (labels_at (words_in self.now.columns chosen words.now) j))) }
         requires estimates { length estimates.old ≡ self.now.columns }
@@ -93,7 +94,7 @@ impl<H: Chain, A: Code> Search<'_, H, A> {
 
     /// Puts a stage's choice behind those of the stages before it.
     fn choose_stage(&self, chosen: usize, words: &mut [u8]) -> Result<(), Fault>
-        requires search { Searched (H.Chain.sound self.now.chain.now) (H.Chain.model self.now.chain.now) A.Code.model A.Code.sound self.now.codes.now self.now.columns self.now.word.now self.now.marks.now }
+        requires search { Searched H.Chain A.Code self.now }
         requires stage { (chosen < length self.now.codes.now) × ((self.now.columns * length self.now.codes.now ≤ length words.old) × (Choices (H.Chain.model self.now.chain.now) (map A.Code.model self.now.codes.now) self.now.word.now self.now.marks.now (words_in self.now.columns chosen words.old))) }
         ensures { Chooses (H.Chain.model self.now.chain.now) (map A.Code.model self.now.codes.now) self.now.columns chosen self.now.word.now self.now.marks.now words.old words.new result }
     {
@@ -111,7 +112,7 @@ impl<H: Chain, A: Code> Search<'_, H, A> {
 
     /// The choices of all stages, one behind the other, or 12 with the first stage that has none.
     fn choose_all(&self, words: &mut [u8]) -> Result<(), Fault>
-        requires search { Searched (H.Chain.sound self.now.chain.now) (H.Chain.model self.now.chain.now) A.Code.model A.Code.sound self.now.codes.now self.now.columns self.now.word.now self.now.marks.now }
+        requires search { Searched H.Chain A.Code self.now }
         requires room { self.now.columns * length self.now.codes.now ≤ length words.old }
         ensures { ChoosesAll (H.Chain.model self.now.chain.now) (map A.Code.model self.now.codes.now) self.now.columns (length self.now.codes.now) self.now.word.now self.now.marks.now words.new result }
     {
@@ -124,7 +125,7 @@ impl<H: Chain, A: Code> Search<'_, H, A> {
     /// Puts the word that the stages' choices make into `found` and answers the harm of the given word against it. Refuses with 12 and the
     /// first stage without a choice, or with 12 and 0 if that harm is not below the reach.
     pub(crate) fn find(&self, words: &mut [u8], found: &mut [u8]) -> Result<usize, Fault>
-        requires search { Searched (H.Chain.sound self.now.chain.now) (H.Chain.model self.now.chain.now) A.Code.model A.Code.sound self.now.codes.now self.now.columns self.now.word.now self.now.marks.now }
+        requires search { Searched H.Chain A.Code self.now }
         requires found { length found.old ≡ length self.now.word.now }
         requires room { self.now.columns * length self.now.codes.now ≤ length words.old }
         ensures { Finds (H.Chain.model self.now.chain.now) (map A.Code.model self.now.codes.now) self.now.columns (length self.now.codes.now) self.now.word.now self.now.marks.now words.new found.new result }
@@ -138,7 +139,7 @@ impl<H: Chain, A: Code> Search<'_, H, A> {
 
     /// Finds the stages' codewords of a word that is a codeword, and refuses any other word with 12 at place 0.
     pub(crate) fn recognize(&self, words: &mut [u8], found: &mut [u8]) -> Result<(), Fault>
-        requires search { Searched (H.Chain.sound self.now.chain.now) (H.Chain.model self.now.chain.now) A.Code.model A.Code.sound self.now.codes.now self.now.columns self.now.word.now self.now.marks.now }
+        requires search { Searched H.Chain A.Code self.now }
         requires clear { self.now.marks.now ≡ replicate (length self.now.word.now) 0 }
         requires found { length found.old ≡ length self.now.word.now }
         requires room { self.now.columns * length self.now.codes.now ≤ length words.old }

@@ -1,6 +1,7 @@
 // The columns of a pile: the labels that the stages' codewords have in one, and the cells that they stand for. The codewords lie
 // one behind the other in one row; how long each is is the number of columns, which belongs to the pile and not to the row.
 ghost use Rattle.std.specs.Prelude.{◌≡◌, ℕ, ◌*◌, ◌<◌, ◌≤◌, length, MatchResult};
+ghost use Rattle.words.specs.Soundness.{Sound};
 ghost use Rattle.chains.specs.Model.{Row};
 ghost use Rattle.pile_laws.specs.Build.{labels_at, laid};
 ghost use Rattle.pile_laws.specs.Flat.{words_in};
@@ -27,7 +28,7 @@ fn lay_column<H: Chain>(
     j: usize,
     cells: &mut [u8],
 ) -> Result<(), Fault>
-    requires { (H.Chain.sound chain.now) × ((j < columns) × ((columns * (H.Chain.model chain.now).stages ≤ length words.now) × ((length cells.old ≡ (H.Chain.model chain.now).breadth) × (Row (H.Chain.model chain.now) (labels_at (words_in columns (H.Chain.model chain.now).stages words.now) j))))) }
+    requires { (Sound H.Chain.refusal chain.now) × ((j < columns) × ((columns * (H.Chain.model chain.now).stages ≤ length words.now) × ((length cells.old ≡ (H.Chain.model chain.now).breadth) × (Row (H.Chain.model chain.now) (labels_at (words_in columns (H.Chain.model chain.now).stages words.now) j))))) }
     ensures { MatchResult result (λ _. cells.new ≡ (H.Chain.model chain.now).word (labels_at (words_in columns (H.Chain.model chain.now).stages words.now) j)) (λ _. ⊥) }
 {
     let mut room = [0; MOST_STAGES];
@@ -43,7 +44,7 @@ pub(crate) fn lay_columns<H: Chain>(
     columns: usize,
     cells: &mut [u8],
 ) -> Result<(), Fault>
-    requires { (H.Chain.sound chain.now) × ((columns * (H.Chain.model chain.now).stages ≤ length words.now) × ((length cells.old ≡ (H.Chain.model chain.now).breadth * columns) × (((j : ℕ) → j < columns → Row (H.Chain.model chain.now) (labels_at (words_in columns (H.Chain.model chain.now).stages words.now) j))))) }
+    requires { (Sound H.Chain.refusal chain.now) × ((columns * (H.Chain.model chain.now).stages ≤ length words.now) × ((length cells.old ≡ (H.Chain.model chain.now).breadth * columns) × (((j : ℕ) → j < columns → Row (H.Chain.model chain.now) (labels_at (words_in columns (H.Chain.model chain.now).stages words.now) j))))) }
     ensures { MatchResult result (λ _. cells.new ≡ laid (H.Chain.model chain.now) columns (words_in columns (H.Chain.model chain.now).stages words.now)) (λ _. ⊥) }
 {
     let breadth = chain.breadth();

@@ -1,12 +1,14 @@
 // Whether the parts of a pile are sound and fit each other.
-ghost use Rattle.std.specs.Prelude.{◌≡◌, ◌≤◌, map, length, Some, MatchResult};
+ghost use Rattle.std.specs.Prelude.{◌≡◌, ◌≤◌, map, MatchResult};
 ghost use Rattle.std.specs.List.{AllByRecursion};
 ghost use Rattle.words.specs.declared.fault.Kind.TheVariants.{UnfitStages};
 ghost use Rattle.words.specs.declared.fault.Layer.TheVariants.{Pile as the_pile};
+ghost use Rattle.words.specs.Buffers.{checked};
 ghost use Rattle.words.specs.Faults.{fault};
+ghost use Rattle.words.specs.Soundness.{Sound};
 ghost use Rattle.pile_laws.specs.Build.{columns as columns_of};
-ghost use Rattle.pile_laws.specs.Fit.{Fits, fits_stage, unfit, unfit_from};
-ghost use Rattle.piles.specs.Sound.{FirstUnsound, RefusesFit, SoundOrRefused, SoundPile, RefusesPile};
+ghost use Rattle.pile_laws.specs.Fit.{fits_stage, unfit_from};
+ghost use Rattle.piles.specs.Sound.{first_refusal, fit_refusal, parts_refusal};
 
 use chains::chain::Chain;
 use codes::code::Code;
@@ -15,7 +17,7 @@ use words::limits::MOST_CELLS;
 
 /// Refuses the first code that is not sound, by that code's own fault.
 fn check_codes<A: Code>(codes: &[A]) -> Result<(), Fault>
-    ensures { MatchResult result (λ _. AllByRecursion A.Code.sound codes.now) (FirstUnsound A.Code.sound A.Code.refuses codes.now) }
+    ensures { result ≡ checked (first_refusal A.Code.refusal codes.now) }
 {
     for code in codes {
         code.check()?;
@@ -25,7 +27,7 @@ fn check_codes<A: Code>(codes: &[A]) -> Result<(), Fault>
 
 /// Whether a code fits a stage of the chain, over so many columns.
 fn fits<H: Chain, A: Code>(chain: &H, code: &A, stage: usize, columns: usize) -> Result<bool, Fault>
-    requires { (H.Chain.sound chain.now) × ((A.Code.sound code.now) × (1 ≤ stage)) }
+    requires { (Sound H.Chain.refusal chain.now) × ((Sound A.Code.refusal code.now) × (1 ≤ stage)) }
     ensures { MatchResult result (λ b. b ≡ fits_stage (H.Chain.model chain.now) columns stage (A.Code.model code.now)) (λ _. ⊥) }
 {
     if stage > chain.stages() {
@@ -41,7 +43,7 @@ fn unfit_stage<H: Chain, A: Code>(
     codes: &[A],
     columns: usize,
 ) -> Result<Option<usize>, Fault>
-    requires { (H.Chain.sound chain.now) × (AllByRecursion A.Code.sound codes.now) }
+    requires { (Sound H.Chain.refusal chain.now) × (AllByRecursion (Sound A.Code.refusal) codes.now) }
     ensures { MatchResult result (λ o. o ≡ unfit_from (H.Chain.model chain.now) columns 1 (map A.Code.model codes.now)) (λ _. ⊥) }
 {
     for (i, code) in codes.iter().enumerate() {
@@ -57,7 +59,7 @@ fn unfit_stage<H: Chain, A: Code>(
 
 /// The number of columns: the length of the first stage's code.
 pub(crate) fn count_columns<A: Code>(codes: &[A]) -> usize
-    requires { AllByRecursion A.Code.sound codes.now }
+    requires { AllByRecursion (Sound A.Code.refusal) codes.now }
     ensures value { result ≡ columns_of (map A.Code.model codes.now) }
     ensures bound { result ≤ 4096 }
 {
@@ -72,8 +74,8 @@ fn unfit_at(place: usize) -> Fault
 
 /// Refuses codes that do not fit the chain: the first such stage, or 0 where only the cells are too many.
 fn check_fit<H: Chain, A: Code>(chain: &H, codes: &[A]) -> Result<(), Fault>
-    requires { (H.Chain.sound chain.now) × (AllByRecursion A.Code.sound codes.now) }
-    ensures { MatchResult result (λ _. Fits (H.Chain.model chain.now) (map A.Code.model codes.now)) (RefusesFit (H.Chain.model chain.now) (map A.Code.model codes.now)) }
+    requires { (Sound H.Chain.refusal chain.now) × (AllByRecursion (Sound A.Code.refusal) codes.now) }
+    ensures { result ≡ checked (fit_refusal (H.Chain.model chain.now) (map A.Code.model codes.now)) }
 {
     let columns = count_columns(codes);
     if let Some(stage) = unfit_stage(chain, codes, columns)? {
@@ -87,7 +89,7 @@ fn check_fit<H: Chain, A: Code>(chain: &H, codes: &[A]) -> Result<(), Fault>
 
 /// Refuses a chain or a code that is not sound, and codes that do not fit the chain.
 pub(crate) fn check_parts<H: Chain, A: Code>(chain: &H, codes: &[A]) -> Result<(), Fault>
-    ensures { SoundOrRefused (SoundPile (H.Chain.sound chain.now) (H.Chain.model chain.now) A.Code.model A.Code.sound codes.now) (RefusesPile (H.Chain.sound chain.now) (H.Chain.model chain.now) A.Code.model A.Code.sound A.Code.refuses codes.now) result }
+    ensures { result ≡ checked (parts_refusal H.Chain A.Code chain.now codes.now) }
 {
     chain.check()?;
     check_codes(codes)?;

@@ -1,6 +1,7 @@
 // The bits of a pile's message as the symbols of its stages' messages, most significant bit first.
 ghost use Rattle.std.specs.Prelude.{◌≡◌, ◌*◌, ◌<◌, ◌≤◌, map, length, MatchResult};
 ghost use Rattle.std.specs.List.{AllByRecursion};
+ghost use Rattle.words.specs.Soundness.{Sound};
 ghost use Rattle.pile_laws.specs.Build.{stage_bits, stage_words, symbols as symbols_of, total_bits};
 ghost use Rattle.pile_laws.specs.Fit.{EachLong};
 ghost use Rattle.pile_laws.specs.Flat.{words_in};
@@ -25,7 +26,7 @@ fn read_symbols(bits: &[u8], width: usize, symbols: &mut [u8])
 
 /// The codeword of a stage's message, which is given by its bits.
 fn encode_stage<A: Code>(code: &A, bits: &[u8], word: &mut [u8]) -> Result<(), Fault>
-    requires { (A.Code.sound code.now) × ((length bits.now ≡ stage_bits (A.Code.model code.now)) × ((AllByRecursion (λ b. b < 2) bits.now) × (length word.old ≡ (A.Code.model code.now).len))) }
+    requires { (Sound A.Code.refusal code.now) × ((length bits.now ≡ stage_bits (A.Code.model code.now)) × ((AllByRecursion (λ b. b < 2) bits.now) × (length word.old ≡ (A.Code.model code.now).len))) }
     ensures { MatchResult result (λ _. word.new ≡ (A.Code.model code.now).codeword (symbols_of (A.Code.model code.now).width (A.Code.model code.now).message_len bits.now)) (λ _. ⊥) }
 {
     let mut room = [0; MOST_CELLS];
@@ -41,7 +42,7 @@ pub(crate) fn encode_stages<A: Code>(
     columns: usize,
     words: &mut [u8],
 ) -> Result<(), Fault>
-    requires codes { (AllByRecursion A.Code.sound codes.now) × ((length codes.now ≤ 5) × (EachLong columns (map A.Code.model codes.now))) }
+    requires codes { (AllByRecursion (Sound A.Code.refusal) codes.now) × ((length codes.now ≤ 5) × (EachLong columns (map A.Code.model codes.now))) }
     requires message { (length message.now ≡ total_bits (map A.Code.model codes.now)) × (AllByRecursion (λ b. b < 2) message.now) }
     requires room { columns * length codes.now ≤ length words.old }
     ensures { MatchResult result (λ _. words_in columns (length codes.now) words.new ≡ stage_words (map A.Code.model codes.now) message.now) (λ _. ⊥) }

@@ -1,17 +1,15 @@
 // A pile of a chain and its codes.
-ghost use Rattle.std.specs.Prelude.{◌≡◌, ◌*◌, ◌≤◌, map, length, take, None, true, is_err, IfErr, MatchResult, OnOk};
+ghost use Rattle.std.specs.Prelude.{◌≡◌, ◌*◌, ◌≤◌, ◌↔◌, map, length, take, None, Some, IfErr, IfOk, IsOk, MatchResult, OnOk, OnSome};
 ghost use Rattle.words.specs.declared.fault.Layer.TheVariants.{Code as the_code};
-ghost use Rattle.words.specs.Buffers.{refusal};
-ghost use Rattle.words.specs.Faults.{fault};
+ghost use Rattle.words.specs.Buffers.{answered, checked, refusal as refusal_of};
+ghost use Rattle.words.specs.Soundness.{Refused, Sound};
 ghost use Rattle.codes.specs.Model.{Lawful, Message, OnlyOneNear};
 ghost use Rattle.codes.specs.Parameters.{parameters_of};
-ghost use Rattle.codes.specs.Promises.{Corrected, Recovered, Refused};
+ghost use Rattle.codes.specs.Promises.{AnsweredExactly, Corrected, OneCorrection, OneRecovery, Recovered};
 ghost use Rattle.codes.proofs.Working.{correct_buffers, message_of_buffers};
-ghost use Rattle.pile_laws.specs.Build.{columns as columns_of, reach as reach_of};
-ghost use Rattle.pile_laws.specs.Pile.{pile};
-ghost use Rattle.piles.specs.Sound.{LieApart, SoundPile, RefusesPile};
-ghost use Rattle.pile_laws.proofs.Law.{pile_lawful};
-ghost use Rattle.pile_laws.proofs.Scans.{each_lawful};
+ghost use Rattle.pile_laws.specs.Build.{columns as columns_of};
+ghost use Rattle.piles.specs.FromRefusal.{parts_lawful};
+ghost use Rattle.piles.specs.Sound.{LieApart, SoundParts, SoundPile, parts_model, parts_refusal, pile_model, pile_refusal, stages_of};
 
 use crate::choices::Search;
 use crate::columns::lay_columns;
@@ -55,7 +53,7 @@ impl<H, A> Pile<H, A> {
 impl<H: Chain, A: Code> Pile<H, A> {
     /// The reach, or the refusal of parts that are not sound or do not fit.
     fn reach(&self) -> Result<usize, Fault>
-        ensures { MatchResult result (λ d. d ≡ reach_of (H.Chain.model self.now.chain) (map A.Code.model (take self.now.used self.now.stages))) (λ _. SoundPile (H.Chain.sound self.now.chain) (H.Chain.model self.now.chain) A.Code.model A.Code.sound (take self.now.used self.now.stages) → ⊥) }
+        ensures { result ≡ answered (pile_refusal H.Chain A.Code self.now) (pile_model H.Chain A.Code self.now).distance }
     {
         let codes = self.codes();
         check_parts(&self.chain, codes)?;
@@ -63,12 +61,14 @@ impl<H: Chain, A: Code> Pile<H, A> {
     }
 }
 
-impl<H: Chain + Copy, A: Code + Copy> Pile<H, A> {
+impl<H: Chain + Drop, A: Code + Copy> Pile<H, A> {
     /// Joins a chain and a code for each of its stages. The refusal of a chain that is not sound comes first, then that of the first code
     /// that is not, and then 15: at the first stage that is missing, extra, of another width than the chain's or of another length
     /// than stage 1's, and at 0 where only the cells are too many.
     pub fn new(chain: H, codes: &[A]) -> Result<Self, Fault>
-        ensures { MatchResult result (λ (p : Pile H A). SoundPile (H.Chain.sound chain) (H.Chain.model chain) A.Code.model A.Code.sound codes.now × (p.chain ≡ chain) × (take p.used p.stages ≡ codes.now)) (RefusesPile (H.Chain.sound chain) (H.Chain.model chain) A.Code.model A.Code.sound A.Code.refuses codes.now) }
+        ensures made { IfOk result (λ p. (p.chain ≡ chain) × (stages_of H.Chain A.Code p ≡ codes.now)) }
+        ensures sound { OnOk result (SoundParts H.Chain A.Code chain codes.now) }
+        ensures refused { IfErr result (λ f. parts_refusal H.Chain A.Code chain codes.now ≡ Some f) }
     {
         check_parts(&chain, codes)?;
         let mut stages = [codes[0]; MOST_STAGES];
@@ -83,7 +83,7 @@ impl<H: Chain + Copy, A: Code + Copy> Pile<H, A> {
 
 /// The cells of a pile whose parts are sound and fit.
 fn count_cells<H: Chain, A: Code>(chain: &H, codes: &[A]) -> usize
-    requires { SoundPile (H.Chain.sound chain.now) (H.Chain.model chain.now) A.Code.model A.Code.sound codes.now }
+    requires { SoundParts H.Chain A.Code chain.now codes.now }
     ensures value { result ≡ (H.Chain.model chain.now).breadth * columns_of (map A.Code.model codes.now) }
     ensures bound { result ≤ 4096 }
 {
@@ -92,8 +92,8 @@ fn count_cells<H: Chain, A: Code>(chain: &H, codes: &[A]) -> usize
 
 /// What the calls of a pile check their buffers against.
 fn parameters<H: Chain, A: Code>(chain: &H, codes: &[A]) -> Parameters
-    requires { SoundPile (H.Chain.sound chain.now) (H.Chain.model chain.now) A.Code.model A.Code.sound codes.now }
-    ensures { result ≡ parameters_of (pile (H.Chain.model chain.now) (map A.Code.model codes.now)) }
+    requires { SoundParts H.Chain A.Code chain.now codes.now }
+    ensures { result ≡ parameters_of (parts_model H.Chain A.Code chain.now codes.now) }
 {
     Parameters {
         symbols: 2,
@@ -109,10 +109,10 @@ fn write_codeword<H: Chain, A: Code>(
     message: &[u8],
     word: &mut [u8],
 ) -> Result<(), Fault>
-    requires parts { SoundPile (H.Chain.sound chain.now) (H.Chain.model chain.now) A.Code.model A.Code.sound codes.now }
-    requires message { Message (pile (H.Chain.model chain.now) (map A.Code.model codes.now)) message.now }
+    requires parts { SoundParts H.Chain A.Code chain.now codes.now }
+    requires message { Message (parts_model H.Chain A.Code chain.now codes.now) message.now }
     requires word { length word.old ≡ (H.Chain.model chain.now).breadth * columns_of (map A.Code.model codes.now) }
-    ensures { MatchResult result (λ _. word.new ≡ (pile (H.Chain.model chain.now) (map A.Code.model codes.now)).codeword message.now) (λ _. ⊥) }
+    ensures { MatchResult result (λ _. word.new ≡ (parts_model H.Chain A.Code chain.now codes.now).codeword message.now) (λ _. ⊥) }
 {
     let columns = count_columns(codes);
     let mut words = [0; MOST_LABELS];
@@ -127,9 +127,9 @@ fn recover<H: Chain, A: Code>(
     word: &[u8],
     message: &mut [u8],
 ) -> Result<(), Fault>
-    requires parts { SoundPile (H.Chain.sound chain.now) (H.Chain.model chain.now) A.Code.model A.Code.sound codes.now }
-    requires word { (refusal the_code (message_of_buffers (pile (H.Chain.model chain.now) (map A.Code.model codes.now)) 2 message.old word.now) ≡ None) × ((length word.now ≤ 4096) × (length message.old ≤ 4096)) }
-    ensures { Recovered (pile (H.Chain.model chain.now) (map A.Code.model codes.now)) word.now message.old message.new result }
+    requires parts { SoundParts H.Chain A.Code chain.now codes.now }
+    requires word { (refusal_of the_code (message_of_buffers (parts_model H.Chain A.Code chain.now codes.now) 2 message.old word.now) ≡ None) × ((length word.now ≤ 4096) × (length message.old ≤ 4096)) }
+    ensures { Recovered (parts_model H.Chain A.Code chain.now codes.now) word.now message.old message.new result }
 {
     let columns = count_columns(codes);
     let marks = [0; MOST_CELLS];
@@ -154,9 +154,9 @@ fn replace<H: Chain, A: Code>(
     word: &mut [u8],
     marks: &[u8],
 ) -> Result<usize, Fault>
-    requires parts { SoundPile (H.Chain.sound chain.now) (H.Chain.model chain.now) A.Code.model A.Code.sound codes.now }
-    requires word { (refusal the_code (correct_buffers (pile (H.Chain.model chain.now) (map A.Code.model codes.now)) 2 word.old marks.now) ≡ None) × (length word.old ≤ 4096) }
-    ensures { Corrected (pile (H.Chain.model chain.now) (map A.Code.model codes.now)) word.old marks.now word.new result }
+    requires parts { SoundParts H.Chain A.Code chain.now codes.now }
+    requires word { (refusal_of the_code (correct_buffers (parts_model H.Chain A.Code chain.now codes.now) 2 word.old marks.now) ≡ None) × (length word.old ≤ 4096) }
+    ensures { Corrected (parts_model H.Chain A.Code chain.now codes.now) word.old marks.now word.new result }
 {
     let columns = count_columns(codes);
     let mut words = [0; MOST_LABELS];
@@ -175,24 +175,20 @@ fn replace<H: Chain, A: Code>(
 }
 
 impl<H: Chain, A: Code> Code for Pile<H, A> {
-    ghost model = { λ p. pile (H.Chain.model p.chain) (map A.Code.model (take p.used p.stages)) };
+    ghost model = { pile_model H.Chain A.Code };
 
-    ghost sound = { λ p. SoundPile (H.Chain.sound p.chain) (H.Chain.model p.chain) A.Code.model A.Code.sound (take p.used p.stages) };
+    ghost refusal = { pile_refusal H.Chain A.Code };
 
-    ghost refuses = { λ p. RefusesPile (H.Chain.sound p.chain) (H.Chain.model p.chain) A.Code.model A.Code.sound A.Code.refuses (take p.used p.stages) };
-
-    ghost lawful = { λ p s.
-        let codes = take p.used p.stages in
-        pile_lawful (H.Chain.model p.chain) (H.Chain.lawful p.chain s.0) (map A.Code.model codes) (each_lawful A.Code.model A.Code.sound codes A.Code.lawful s.1) s.2 };
+    ghost lawful = { λ p none. parts_lawful H.Chain.model H.Chain.refusal A.Code.model A.Code.refusal H.Chain.lawful A.Code.lawful p.chain (take p.used p.stages) none };
 
     /// Refuses parts that are not sound or do not fit each other. A pile that passes is a lawful code: the codewords of different messages
     /// differ in at least as many cells as the reach, and a message is no longer than its codeword.
-    // The trait's own clauses stand here again for the sake of `lawful`, and at `correct` for the sake of `only` and
-    // `apart`, so that all that holds of a pile stands on one call.
+    // The trait's own clause stands here again for the sake of the others, as it does at `correct`, so that all that holds of a
+    // pile stands on one call.
     fn check(&self) -> Result<(), Fault>
-        ensures sound { MatchResult result (λ _. SoundPile (H.Chain.sound self.now.chain) (H.Chain.model self.now.chain) A.Code.model A.Code.sound (take self.now.used self.now.stages)) (λ _. SoundPile (H.Chain.sound self.now.chain) (H.Chain.model self.now.chain) A.Code.model A.Code.sound (take self.now.used self.now.stages) → ⊥) }
-        ensures refused { IfErr result (RefusesPile (H.Chain.sound self.now.chain) (H.Chain.model self.now.chain) A.Code.model A.Code.sound A.Code.refuses (take self.now.used self.now.stages)) }
-        ensures lawful { OnOk result (Lawful (pile (H.Chain.model self.now.chain) (map A.Code.model (take self.now.used self.now.stages)))) }
+        ensures refused { result ≡ checked (pile_refusal H.Chain A.Code self.now) }
+        ensures sound { IsOk result ↔ SoundPile H.Chain A.Code self.now }
+        ensures lawful { OnOk result (Lawful (pile_model H.Chain A.Code self.now)) }
     {
         check_parts(&self.chain, self.codes())
     }
@@ -204,10 +200,13 @@ impl<H: Chain, A: Code> Code for Pile<H, A> {
         1
     }
 
-    // Of a pile that is not sound the trait promises none of these three numbers.
+    // Of a pile that is not sound these three are 0.
 
     /// The cells of a codeword: a chain's cells for each column.
-    fn len(&self) -> usize {
+    fn len(&self) -> usize
+        ensures sound { Sound (pile_refusal H.Chain A.Code) self.now → result ≡ (pile_model H.Chain A.Code self.now).len }
+        ensures unsound { OnSome (pile_refusal H.Chain A.Code self.now) (result ≡ 0) }
+    {
         match self.check() {
             Ok(()) => count_cells(&self.chain, self.codes()),
             Err(_) => 0,
@@ -215,7 +214,10 @@ impl<H: Chain, A: Code> Code for Pile<H, A> {
     }
 
     /// The bits of a message.
-    fn message_len(&self) -> usize {
+    fn message_len(&self) -> usize
+        ensures sound { Sound (pile_refusal H.Chain A.Code) self.now → result ≡ (pile_model H.Chain A.Code self.now).message_len }
+        ensures unsound { OnSome (pile_refusal H.Chain A.Code self.now) (result ≡ 0) }
+    {
         match self.check() {
             Ok(()) => count_bits(self.codes()),
             Err(_) => 0,
@@ -223,7 +225,10 @@ impl<H: Chain, A: Code> Code for Pile<H, A> {
     }
 
     /// The reach: the least inner times outer distance over the stages.
-    fn distance(&self) -> usize {
+    fn distance(&self) -> usize
+        ensures sound { Sound (pile_refusal H.Chain A.Code) self.now → result ≡ (pile_model H.Chain A.Code self.now).distance }
+        ensures unsound { OnSome (pile_refusal H.Chain A.Code self.now) (result ≡ 0) }
+    {
         self.reach().unwrap_or(0)
     }
 
@@ -234,7 +239,12 @@ impl<H: Chain, A: Code> Code for Pile<H, A> {
         write_codeword(&self.chain, codes, message, word)
     }
 
-    fn message_of(&self, word: &[u8], message: &mut [u8]) -> Result<(), Fault> {
+    /// Writes the message of a codeword, which is the only one that has it, and refuses any other word with 12 at place 0.
+    fn message_of(&self, word: &[u8], message: &mut [u8]) -> Result<(), Fault>
+        ensures sound { Sound (pile_refusal H.Chain A.Code) self.now → Recovered (pile_model H.Chain A.Code self.now) word.now message.old message.new result }
+        ensures refused { Refused (pile_refusal H.Chain A.Code self.now) result (message.new ≡ message.old) }
+        ensures single { Sound (pile_refusal H.Chain A.Code) self.now → OneRecovery (pile_model H.Chain A.Code self.now) word.now message.old }
+    {
         self.check()?;
         let codes = self.codes();
         parameters(&self.chain, codes).check_message_of(word, message)?;
@@ -245,11 +255,12 @@ impl<H: Chain, A: Code> Code for Pile<H, A> {
     /// stage without a choice, or at 0 where all stages choose but the word that they make is too far. There is at most one codeword so
     /// near, since the codewords of different messages differ in at least as many cells as the reach.
     fn correct(&self, word: &mut [u8], marks: &[u8]) -> Result<usize, Fault>
-        ensures sound { SoundPile (H.Chain.sound self.now.chain) (H.Chain.model self.now.chain) A.Code.model A.Code.sound (take self.now.used self.now.stages) → Corrected (pile (H.Chain.model self.now.chain) (map A.Code.model (take self.now.used self.now.stages))) word.old marks.now word.new result }
-        ensures unsound { (SoundPile (H.Chain.sound self.now.chain) (H.Chain.model self.now.chain) A.Code.model A.Code.sound (take self.now.used self.now.stages) → ⊥) → (is_err result ≡ true) × (word.new ≡ word.old) }
-        ensures refused { (SoundPile (H.Chain.sound self.now.chain) (H.Chain.model self.now.chain) A.Code.model A.Code.sound (take self.now.used self.now.stages) → ⊥) → Refused (RefusesPile (H.Chain.sound self.now.chain) (H.Chain.model self.now.chain) A.Code.model A.Code.sound A.Code.refuses (take self.now.used self.now.stages)) result }
-        ensures apart { SoundPile (H.Chain.sound self.now.chain) (H.Chain.model self.now.chain) A.Code.model A.Code.sound (take self.now.used self.now.stages) → LieApart (pile (H.Chain.model self.now.chain) (map A.Code.model (take self.now.used self.now.stages))) }
-        ensures only { SoundPile (H.Chain.sound self.now.chain) (H.Chain.model self.now.chain) A.Code.model A.Code.sound (take self.now.used self.now.stages) → OnlyOneNear (pile (H.Chain.model self.now.chain) (map A.Code.model (take self.now.used self.now.stages))) word.old marks.now }
+        ensures sound { Sound (pile_refusal H.Chain A.Code) self.now → Corrected (pile_model H.Chain A.Code self.now) word.old marks.now word.new result }
+        ensures refused { Refused (pile_refusal H.Chain A.Code self.now) result (word.new ≡ word.old) }
+        ensures apart { Sound (pile_refusal H.Chain A.Code) self.now → LieApart (pile_model H.Chain A.Code self.now) }
+        ensures only { Sound (pile_refusal H.Chain A.Code) self.now → OnlyOneNear (pile_model H.Chain A.Code self.now) word.old marks.now }
+        ensures single { Sound (pile_refusal H.Chain A.Code) self.now → OneCorrection (pile_model H.Chain A.Code self.now) word.old marks.now }
+        ensures exactly { Sound (pile_refusal H.Chain A.Code) self.now → AnsweredExactly (pile_model H.Chain A.Code self.now) word.old marks.now result }
     {
         self.check()?;
         let codes = self.codes();

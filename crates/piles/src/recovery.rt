@@ -1,6 +1,7 @@
 // The message of a pile by the codewords of its stages: each stage's message, and the bits that spell it.
 ghost use Rattle.std.specs.Prelude.{◌≡◌, ℕ, ◌*◌, ◌<◌, ◌≤◌, List, map, length, MatchResult};
 ghost use Rattle.std.specs.List.{AllByRecursion};
+ghost use Rattle.words.specs.Soundness.{Sound};
 ghost use Rattle.codes.specs.Model.{Message};
 ghost use Rattle.pile_laws.specs.Build.{encoded, joined_bits, spelled_out, stage_bits, total_bits};
 ghost use Rattle.pile_laws.specs.Fit.{EachLong};
@@ -28,7 +29,7 @@ fn spell_out(symbols: &[u8], width: usize, bits: &mut [u8])
 
 /// The bits of the message of a stage, which is given by its codeword.
 fn recover_stage<A: Code>(code: &A, word: &[u8], bits: &mut [u8]) -> Result<(), Fault>
-    requires { (A.Code.sound code.now) × ((((u : List ℕ) × Message (A.Code.model code.now) u × ((A.Code.model code.now).codeword u ≡ word.now))) × (length bits.old ≡ stage_bits (A.Code.model code.now))) }
+    requires { (Sound A.Code.refusal code.now) × ((((u : List ℕ) × Message (A.Code.model code.now) u × ((A.Code.model code.now).codeword u ≡ word.now))) × (length bits.old ≡ stage_bits (A.Code.model code.now))) }
     ensures { MatchResult result (λ _. (u : List ℕ) × Message (A.Code.model code.now) u × ((A.Code.model code.now).codeword u ≡ word.now) × (bits.new ≡ spelled_out (A.Code.model code.now).width u)) (λ _. ⊥) }
 {
     let mut room = [0; MOST_CELLS];
@@ -45,7 +46,7 @@ pub(crate) fn recover_stages<A: Code>(
     words: &[u8],
     bits: &mut [u8],
 ) -> Result<(), Fault>
-    requires codes { (AllByRecursion A.Code.sound codes.now) × ((length codes.now ≤ 5) × (EachLong columns (map A.Code.model codes.now))) }
+    requires codes { (AllByRecursion (Sound A.Code.refusal) codes.now) × ((length codes.now ≤ 5) × (EachLong columns (map A.Code.model codes.now))) }
     requires words { (columns * length codes.now ≤ length words.now) × (((k : ℕ) → k < length codes.now → EncodedAt (map A.Code.model codes.now) (words_in columns (length codes.now) words.now) k)) }
     requires room { length bits.old ≡ total_bits (map A.Code.model codes.now) }
     ensures { MatchResult result (λ _. (us : List (List ℕ)) × EachMessage (map A.Code.model codes.now) us × (encoded (map A.Code.model codes.now) us ≡ words_in columns (length codes.now) words.now) × (bits.new ≡ joined_bits (map A.Code.model codes.now) us)) (λ _. ⊥) }

@@ -1,65 +1,105 @@
 // Actions on an image as text: those of the command line, and those of a script, one to a line.
 
-use crate::failure::Failure;
+use crate::misuse::Misuse;
+use crate::output::Output;
 use lives::call::Call;
 
 /// One action on an image.
 #[derive(Clone, Copy)]
 pub(crate) enum Action<'a> {
-    /// Begins the image anew, each cell 0 and none blank.
-    Create { pages: usize },
+    /// Makes an image, each cell 0 and none blank, in place of one that there is only if told to.
+    Create {
+        pages: usize,
+        replace: bool,
+    },
     /// Writes a file's bytes over the pages from one on.
-    Write { page: usize, file: &'a str },
+    Write {
+        page: usize,
+        file: &'a str,
+    },
     /// Reads so many pages from one on.
-    Read { page: usize, count: usize },
+    Read {
+        page: usize,
+        count: usize,
+        output: Output<'a>,
+    },
     PatrolAll,
     /// Does one call: a patrol or a wear.
     Call(Call<'a>),
-    Inspect { page: usize },
+    Inspect {
+        page: usize,
+    },
 }
 
-fn number(word: &str) -> Option<usize> {
-    word.parse().ok()
+fn number<'a>(word: &'a str) -> Result<usize, Misuse<'a>> {
+    word.parse().ok().ok_or(Misuse::NotANumber(word))
+}
+
+fn state<'a>(word: &'a str) -> Result<u8, Misuse<'a>> {
+    word.parse().ok().ok_or(Misuse::NotAState(word))
 }
 
 impl<'a> Action<'a> {
-    // The action that words name, where they name one.
-    fn named(words: &[&'a str]) -> Option<Self> {
-        Some(match *words {
-            ["create", pages] => Action::Create {
-                pages: number(pages)?,
-            },
-            ["write", page, file] => Action::Write {
-                page: number(page)?,
-                file,
-            },
-            ["read", page] => Action::Read {
-                page: number(page)?,
-                count: 1,
-            },
-            ["read", page, count] => Action::Read {
-                page: number(page)?,
-                count: number(count)?,
-            },
-            ["patrol"] => Action::PatrolAll,
-            ["patrol", page] => Action::Call(Call::Patrol {
-                page: number(page)?,
-            }),
-            ["wear", page, cell, state] => Action::Call(Call::Wear {
-                page: number(page)?,
-                cell: number(cell)?,
-                state: state.parse().ok()?,
-            }),
-            ["inspect", page] => Action::Inspect {
-                page: number(page)?,
-            },
-            _ => return None,
+    fn create(pages: &'a str, replace: bool) -> Result<Self, Misuse<'a>> {
+        Ok(Action::Create {
+            pages: number(pages)?,
+            replace,
         })
     }
 
-    /// The action that words name.
-    pub(crate) fn parse(words: &[&'a str]) -> Result<Self, Failure> {
-        Action::named(words).ok_or(Failure::NoAction)
+    fn write(page: &'a str, file: &'a str) -> Result<Self, Misuse<'a>> {
+        Ok(Action::Write {
+            page: number(page)?,
+            file,
+        })
+    }
+
+    fn read(page: &'a str, count: &'a str, output: Output<'a>) -> Result<Self, Misuse<'a>> {
+        Ok(Action::Read {
+            page: number(page)?,
+            count: number(count)?,
+            output,
+        })
+    }
+
+    fn patrol(page: &'a str) -> Result<Self, Misuse<'a>> {
+        Ok(Action::Call(Call::Patrol {
+            page: number(page)?,
+        }))
+    }
+
+    fn wear(page: &'a str, cell: &'a str, word: &'a str) -> Result<Self, Misuse<'a>> {
+        Ok(Action::Call(Call::Wear {
+            page: number(page)?,
+            cell: number(cell)?,
+            state: state(word)?,
+        }))
+    }
+
+    fn inspect(page: &'a str) -> Result<Self, Misuse<'a>> {
+        Ok(Action::Inspect {
+            page: number(page)?,
+        })
+    }
+
+    /// The action that a name and the words behind it order.
+    pub(crate) fn parse(name: &'a str, words: &[&'a str]) -> Result<Self, Misuse<'a>> {
+        match (name, words) {
+            ("create", [pages]) => Action::create(pages, false),
+            ("create", [pages, "--replace"]) => Action::create(pages, true),
+            ("write", [page, file]) => Action::write(page, file),
+            ("read", [page]) => Action::read(page, "1", Output::Told),
+            ("read", [page, count]) => Action::read(page, count, Output::Told),
+            ("read", [page, "--output", file]) => Action::read(page, "1", Output::named(file)),
+            ("read", [page, count, "--output", file]) => {
+                Action::read(page, count, Output::named(file))
+            }
+            ("patrol", []) => Ok(Action::PatrolAll),
+            ("patrol", [page]) => Action::patrol(page),
+            ("wear", [page, cell, state]) => Action::wear(page, cell, state),
+            ("inspect", [page]) => Action::inspect(page),
+            _ => Err(Misuse::of(name)),
+        }
     }
 
     /// Whether the image's file is to be written afterwards.
@@ -74,7 +114,7 @@ mod tests {
 
     #[test]
     fn actions_are_named(rt: HostRuntime) {
-        let wear = Action::parse(&["wear", "1", "2", "0"]);
+        let wear = Action::parse("wear", &["1", "2", "0"]);
         assert!(rt;
             matches!(
                 wear,
@@ -85,17 +125,43 @@ mod tests {
                 }))
             )
         );
-        let read = Action::parse(&["read", "7"]);
-        assert!(rt; matches!(read, Ok(Action::Read { page: 7, count: 1 })));
-        assert!(rt; matches!(Action::parse(&["patrol"]), Ok(Action::PatrolAll)));
+        let read = Action::parse("read", &["7"]);
         assert!(rt;
             matches!(
-                Action::parse(&["patrol", "3"]),
-                Ok(Action::Call(Call::Patrol { page: 3 }))
+                read,
+                Ok(Action::Read {
+                    page: 7,
+                    count: 1,
+                    output: Output::Told
+                })
             )
         );
-        assert!(rt; Action::parse(&["patrol", "x"]).is_err());
-        assert!(rt; Action::parse(&["wear", "1", "2", "256"]).is_err());
-        assert!(rt; Action::parse(&["write", "0"]).is_err());
+        let copy = Action::parse("read", &["7", "2", "--output", "-"]);
+        assert!(rt;
+            matches!(
+                copy,
+                Ok(Action::Read {
+                    page: 7,
+                    count: 2,
+                    output: Output::Standard
+                })
+            )
+        );
+        assert!(rt; matches!(Action::parse("patrol", &[]), Ok(Action::PatrolAll)));
+    }
+
+    #[test]
+    fn other_words_are_refused(rt: HostRuntime) {
+        assert!(rt;
+            matches!(
+                Action::parse("patrol", &["x"]),
+                Err(Misuse::NotANumber("x"))
+            )
+        );
+        let wear = Action::parse("wear", &["1", "2", "256"]);
+        assert!(rt; matches!(wear, Err(Misuse::NotAState("256"))));
+        assert!(rt; matches!(Action::parse("write", &["0"]), Err(Misuse::Words(_))));
+        assert!(rt; matches!(Action::parse("mend", &["0"]), Err(Misuse::Unknown("mend"))));
+        assert!(rt; matches!(Action::parse("run", &["0"]), Err(Misuse::Unknown("run"))));
     }
 }

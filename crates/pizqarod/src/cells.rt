@@ -16,12 +16,12 @@ pub(crate) struct Word {
 }
 
 // The value and the mark of the cell that a character writes.
-fn cell(character: u8) -> Option<(u8, u8)> {
+fn cell(character: char) -> Result<(u8, u8), Failure> {
     match character {
-        b'0' => Some((0, 0)),
-        b'1' => Some((1, 0)),
-        b'?' => Some((0, 1)),
-        _ => None,
+        '0' => Ok((0, 0)),
+        '1' => Ok((1, 0)),
+        '?' => Ok((0, 1)),
+        other => Err(Failure::NotACell(other)),
     }
 }
 
@@ -46,11 +46,11 @@ impl Word {
     pub(crate) fn parse(heap: Global, text: &str) -> Result<Self, Failure> {
         let mut cells = Vec::new(heap);
         let mut marks = Vec::new(heap);
-        for character in text.as_bytes() {
-            if *character == b' ' {
+        for character in text.chars() {
+            if character == ' ' {
                 continue;
             }
-            let (value, mark) = cell(*character).ok_or(Failure::NotCells)?;
+            let (value, mark) = cell(character)?;
             cells.push(value)?;
             marks.push(mark)?;
         }
@@ -61,16 +61,14 @@ impl Word {
     pub(crate) fn parse_bits(heap: Global, text: &str) -> Result<Vec<u8>, Failure> {
         let Word { cells, marks } = Word::parse(heap, text)?;
         if marks.contains(&1) {
-            return Err(Failure::NotCells);
+            return Err(Failure::NotACell('?'));
         }
         Ok(cells)
     }
 
     /// Does what a text asks for: a number turns that cell over, and a number with ? behind it makes the cell blank.
-    pub(crate) fn damage(&mut self, change: &str) -> Result<(), Failure> {
-        Change::parse(change)
-            .and_then(|change| self.apply(change))
-            .ok_or(Failure::NoChange)
+    pub(crate) fn damage(&mut self, change: &str) -> Option<()> {
+        self.apply(Change::parse(change)?)
     }
 
     // Changes a cell, if the word has it.

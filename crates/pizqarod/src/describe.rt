@@ -1,13 +1,16 @@
 // What one recipe is, in words and numbers.
 use crate::failure::Failure;
+use anyhow::Context;
 use recipe_texts::text::read_text;
 use recipes::recipe::Recipe;
 use std::alloc::{AllocError, Global};
 use std::fmt;
 
 /// The recipe of a text, for commands that need one.
-pub(crate) fn recipe_of(heap: Global, text: &str) -> Result<Recipe, Failure> {
-    read_text(heap, text)?.map_err(Failure::Recipe)
+pub(crate) fn recipe_of(heap: Global, text: &str) -> anyhow::Result<Recipe> {
+    read_text(heap, text)?
+        .map_err(Failure::from)
+        .context(format_args!("recipe '{text}'"))
 }
 
 // A recipe's lines: its chain, a line a stage, and the totals.
@@ -48,7 +51,10 @@ pub(crate) fn describe(heap: Global, text: &str) -> Result<String, AllocError> {
             let lines = Lines { recipe: &recipe };
             format!(in heap; "recipe {text}\n{lines}")
         }
-        Err(error) => format!(in heap; "recipe {text}\n  {error}\n"),
+        Err(error) => {
+            let failure = Failure::from(error);
+            format!(in heap; "recipe {text}\n  {failure}\n")
+        }
     }
 }
 
@@ -79,7 +85,7 @@ mod tests {
         assert!(rt;
             refused.as_str()
                 == "recipe 14 01 01
-  refused 4 (recipe, place 1): no columns, or more than 4096 cells
+  refused 4 (recipe, offset 1): no columns, or more than 4096 cells
 "
         );
         let unread = describe(rt.alloc(), "1x")?;

@@ -2,17 +2,20 @@
 
 use crate::cells::breadth_of;
 use crate::failure::Failure;
-use crate::picture::{Picture, Row};
+use crate::inspection::Inspection;
 use codes::code::Code;
 use lives::call::{Answer, Call};
 use lives::life::live;
+use lives::whole::uphold;
 use media::medium::Medium;
 use media::packed::Packed;
 use memories::memory::Memory;
 use recipe_piles::making::pile_of;
 use recipe_piles::parts::RecipePile;
 use recipes::recipe::Recipe;
-use std::alloc::{AllocError, Global};
+use std::alloc::Global;
+use words::fault::{Fault, Kind, Layer};
+use words::limits::MOST_PAGES;
 
 /// The bytes of an image, how they lie, and the pile that its pages are under.
 #[derive(Drop)]
@@ -47,11 +50,35 @@ impl Image {
         })
     }
 
-    /// Begins anew with so many pages, each cell 0 and none blank.
-    pub(crate) fn renew(&mut self, pages: usize) -> Result<(), AllocError> {
-        let page = page_bytes(self.recipe.cells());
-        self.bytes = vec![in self.heap; 0; page.saturating_mul(pages)]?;
-        Ok(())
+    /// Begins anew with so many pages, each cell 0 and none blank. What no call would take afterwards is refused.
+    pub(crate) fn renew(&mut self, pages: usize) -> Result<(), Failure> {
+        let len = page_bytes(self.recipe.cells()).saturating_mul(pages);
+        if !(1..=MOST_PAGES).contains(&pages) {
+            return Err(Failure::from(Fault::new(Kind::UnfitMedium, Layer::Medium, len)));
+        }
+        self.bytes = vec![in self.heap; 0; len]?;
+        self.check()
+    }
+
+    /// Refuses an image that no call would take.
+    pub(crate) fn check(&mut self) -> Result<(), Failure> {
+        let pile = self.pile;
+        let mut medium = self.medium();
+        let memory = Memory {
+            medium: &mut medium,
+            code: pile,
+        };
+        Ok(memory.check_join()?)
+    }
+
+    /// Refuses so many pages from one on where there are fewer, as a call would refuse the first that there is not.
+    pub(crate) fn check_pages(&self, page: usize, count: usize) -> Result<(), Fault> {
+        let pages = self.pages();
+        if count <= pages.saturating_sub(page) {
+            return Ok(());
+        }
+        let missing = page.max(pages);
+        Err(Fault::new(Kind::PageOutOfRange, Layer::Medium, missing).on_page(missing))
     }
 
     pub(crate) fn bytes(&self) -> &[u8] {
@@ -91,42 +118,49 @@ impl Image {
         Ok(Outcome { answers, payloads })
     }
 
-    /// Shows a page: its harm, its blank cells, how far it is from the reach, and a picture.
-    pub(crate) fn inspect(&mut self, page: usize) -> Result<String, Failure> {
+    /// A page that there is, before and after correction: its word is corrected for the picture, and the page is read.
+    pub(crate) fn inspect(&mut self, page: usize) -> Result<Inspection, Failure> {
         let (pile, heap) = (self.pile, self.heap);
-        let column = breadth_of(&self.recipe)?;
+        let breadth = breadth_of(&self.recipe)?;
         let mut cells = vec![in heap; 0; self.recipe.cells()]?;
         let mut marks = vec![in heap; 0; self.recipe.cells()]?;
-        if let Err(fault) = self.medium().fetch(page, &mut cells, &mut marks) {
-            let fault = fault.on_page(page);
-            return Ok(format!(in heap; "inspect page {page}: {fault}\n")?);
-        }
+        self.medium().fetch(page, &mut cells, &mut marks)?;
         let mut corrected = Vec::from_slice(heap, cells.as_slice())?;
-        let blanks = marks.iter().filter(|mark| **mark != 0).count();
-        let answer = pile.correct(&mut corrected, marks.as_slice());
-        let picture = Picture {
-            page: Row {
-                cells: cells.as_slice(),
-                marks: marks.as_slice(),
-                corrected: corrected.as_slice(),
-            },
-            column,
+        let answer = self.uphold(page, &mut corrected, marks.as_slice())?;
+        Ok(Inspection {
+            page,
+            answer,
+            reach: pile.distance(),
+            breadth,
+            cells,
+            marks,
+            corrected,
+        })
+    }
+
+    // Corrects the word of a page, and reads the page.
+    fn uphold(&mut self, page: usize, word: &mut [u8], marks: &[u8]) -> Result<Answer, Failure> {
+        let mut answers = [Ok(0)];
+        let mut payloads = vec![in self.heap; 0; self.payload()]?;
+        let pile = self.pile;
+        let mut medium = self.medium();
+        let mut memory = Memory {
+            medium: &mut medium,
+            code: pile,
         };
-        let reach = pile.distance();
-        match answer {
-            Ok(harm) => {
-                let left = reach.saturating_sub(harm);
-                Ok(format!(in heap;
-                    "inspect page {page}: harm {harm}, {left} from the reach {reach}, {blanks} of its cells blank\n{picture}"
-                )?)
-            }
-            Err(fault) => {
-                let fault = fault.on_page(page);
-                Ok(format!(in heap;
-                    "inspect page {page}: {fault}, reach {reach}, {blanks} of its cells blank\n{picture}"
-                )?)
-            }
-        }
+        let calls = [Call::Read { page }];
+        let upheld = uphold(
+            &pile,
+            word,
+            marks,
+            &mut memory,
+            &calls,
+            &mut answers,
+            &mut payloads,
+        );
+        upheld.lived?;
+        let [answer] = answers;
+        Ok(answer)
     }
 }
 
@@ -135,7 +169,6 @@ mod tests {
     use super::*;
     use std::iter;
     use std::test::Fail;
-    use words::fault::{Fault, Kind, Layer};
 
     // Eight columns of two cells. The word of the labels a, b is b and then a + b. Stage 1 repeats one bit and stage 2 is open: nine bits,
     // a byte and a spare bit, with reach 2.
@@ -211,7 +244,7 @@ mod tests {
         let outcome = image.live(&[write, blank, Call::Read { page: 0 }])?;
         assert!(rt; outcome.answers.as_slice() == [Ok(0), Ok(0), Ok(1)].as_slice());
         assert!(rt; outcome.payloads.as_slice() == [0, 0, 0xb2].as_slice());
-        let shown = image.inspect(0)?;
+        let shown = format!(in rt.alloc(); "{}", image.inspect(0)?)?;
         let expected = "inspect page 0: harm 1, 1 from the reach 2, 1 of its cells blank
   ?1
   10

@@ -1,4 +1,4 @@
-// The program: what a recipe is, which of many recipes serves best, and what becomes of a single word.
+// The program: what a recipe is, which of many recipes serves best, what becomes of a single word, and the pages of an image.
 #![tactic(auto)]
 
 mod actions;
@@ -6,42 +6,36 @@ mod cells;
 mod describe;
 mod failure;
 mod image;
+mod inspection;
+mod misuse;
+mod output;
 mod picture;
+mod refusal;
+mod save;
 mod session;
 mod single;
 mod survey;
 mod told;
+mod usage;
 mod watch;
 
 use crate::actions::Action;
+use crate::describe::{describe, recipe_of};
 use crate::failure::Failure;
+use crate::misuse::Misuse;
 use crate::session::Session;
 use crate::single::{damage, decode, encode};
+use crate::usage::{Help, Usage};
 use anyhow::anyhow;
 use std::alloc::Global;
-use std::{env, fs, iter};
+use std::env;
+use std::process::ExitCode;
 
-const USAGE: &str =
-    "pizqarod describe HEX..   what each recipe is: a line a stage and the totals, or why it is refused
-pizqarod survey           a table of the recipes on standard input, one to a line, by reach and then bytes
-pizqarod encode HEX BITS  the codeword of a message, its columns one behind the other
-pizqarod damage HEX WORD CHANGE..
-                          the word with cells changed: 17 turns cell 17 over, 17? makes it blank
-pizqarod decode HEX WORD  what each stage makes of the word, and the answer or the refusal
+const VERSION: &str = "pizqarod 0.1.0";
 
-pizqarod create IMAGE HEX PAGES         a new image, a file of packed pages
-pizqarod write IMAGE HEX PAGE FILE      a file's bytes over the pages from one on
-pizqarod read IMAGE HEX PAGE [COUNT]    the bytes of a page, or of some from one on
-pizqarod patrol IMAGE HEX [PAGE]        mends a page, or all
-pizqarod wear IMAGE HEX PAGE CELL STATE sets a cell to 0, 1 or 2, which is blank
-pizqarod inspect IMAGE HEX PAGE         a page's harm and blank cells, and a picture
-pizqarod run IMAGE HEX SCRIPT           such actions one after the other, a line each, as write PAGE FILE
-
-HEX is a recipe as hexadecimal text. BITS is a row of 0 and 1, WORD one of 0, 1 and ? for a blank cell; spaces do not count.";
-
-fn describe_all(rt: &HostRuntime, recipes: &[String]) -> anyhow::Result<()> {
+fn describe_all(rt: &HostRuntime, recipes: &[&str]) -> anyhow::Result<()> {
     for text in recipes {
-        let told = describe::describe(rt.alloc(), text.as_str())?;
+        let told = describe(rt.alloc(), text)?;
         rt.print(told.as_str())?;
     }
     Ok(())
@@ -61,40 +55,95 @@ fn tell(rt: &HostRuntime, told: Result<String, Failure>) -> anyhow::Result<()> {
     Ok(())
 }
 
-fn run(rt: &HostRuntime, heap: Global) -> anyhow::Result<()> {
-    let words: Vec<String> = env::args(rt)?.skip(1).collect(heap)?;
-    let Some(command) = words.first() else {
-        rt.println(USAGE)?;
-        return Ok(());
+// Why words are no command line.
+fn misused(words: &[&str]) -> anyhow::Error {
+    let Some(name) = words.first() else {
+        return anyhow!("usage: pizqarod COMMAND WORD.., see pizqarod --help");
     };
-    let rest = &words[1..];
-    match (command.as_str(), rest) {
-        ("describe", recipes) => describe_all(rt, recipes),
-        ("survey", []) => survey_input(rt),
-        ("encode", [recipe, message]) => {
-            tell(rt, encode(heap, recipe.as_str(), message.as_str()))
+    match Usage::of(name) {
+        Some(usage) => anyhow!("usage: {usage}"),
+        None => anyhow!("usage: pizqarod COMMAND WORD.., see pizqarod --help").context(format_args!(
+            "'{name}' is no command"
+        )),
+    }
+}
+
+// Does one action on an image and gives how many calls were refused.
+fn act(rt: &HostRuntime, words: &[&str]) -> anyhow::Result<usize> {
+    let [name, image, recipe, rest @ ..] = words else {
+        return Err(misused(words));
+    };
+    match Action::parse(name, rest) {
+        Ok(action) => Session::open(rt, image, recipe)?.run_action(action),
+        Err(misuse @ (Misuse::NotANumber(_) | Misuse::NotAState(_))) => Err(anyhow!("{misuse}")),
+        Err(_) => Err(misused(words)),
+    }
+}
+
+// Does a script and gives how many refused calls count.
+fn run_script(
+    rt: &HostRuntime,
+    image: &str,
+    recipe: &str,
+    script: &str,
+    strict: bool,
+) -> anyhow::Result<usize> {
+    let refused = Session::open(rt, image, recipe)?.run_script(script)?;
+    Ok(if strict { refused } else { 0 })
+}
+
+// Does a command on a single word of a recipe.
+fn run_single(rt: &HostRuntime, heap: Global, words: &[&str]) -> anyhow::Result<()> {
+    match words {
+        ["encode", recipe, message] => tell(rt, encode(heap, &recipe_of(heap, recipe)?, message)),
+        ["damage", recipe, word, changes @ ..] if !changes.is_empty() => {
+            tell(rt, damage(heap, &recipe_of(heap, recipe)?, word, changes))
         }
-        ("damage", [recipe, word, changes @ ..]) => {
-            tell(rt, damage(heap, recipe.as_str(), word.as_str(), changes))
-        }
-        ("decode", [recipe, word]) => tell(rt, decode(heap, recipe.as_str(), word.as_str())),
-        ("run", [image, recipe, script]) => {
-            let script = fs::read_to_string(rt, script.as_str())?;
-            Session::open(rt, image.as_str(), recipe.as_str())?.run_script(script.as_str())
-        }
-        (action, [image, recipe, rest @ ..]) => {
-            let rest = rest.iter().map(|word| word.as_str());
-            let words: Vec<&str> = iter::once(action).chain(rest).collect(heap)?;
-            let action = Action::parse(words.as_slice())?;
-            Session::open(rt, image.as_str(), recipe.as_str())?.run_action(action)
-        }
+        ["decode", recipe, word] => tell(rt, decode(heap, &recipe_of(heap, recipe)?, word)),
+        _ => Err(misused(words)),
+    }
+}
+
+// Does what works on no image, where words order that.
+fn run_other(rt: &HostRuntime, heap: Global, words: &[&str]) -> anyhow::Result<()> {
+    match words {
+        ["--help" | "-h" | "help"] => Ok(rt.print(Help)?),
+        ["--version"] => Ok(rt.println(VERSION)?),
+        ["describe", recipes @ ..] if !recipes.is_empty() => describe_all(rt, recipes),
+        ["survey"] => survey_input(rt),
+        _ => run_single(rt, heap, words),
+    }
+}
+
+// Does what words order, and gives how many refused calls count.
+fn run(rt: &HostRuntime, words: &[&str]) -> anyhow::Result<usize> {
+    match words {
+        ["run", image, recipe, script] => run_script(rt, image, recipe, script, false),
+        ["run", image, recipe, script, "--strict"] => run_script(rt, image, recipe, script, true),
+        [name, ..] if Usage::of_action(name).is_some() => act(rt, words),
         _ => {
-            rt.println(USAGE)?;
-            Err(anyhow!("no such command"))
+            run_other(rt, rt.alloc(), words)?;
+            Ok(0)
         }
     }
 }
 
-fn main(rt: HostRuntime) -> anyhow::Result<()> {
-    run(&rt, rt.alloc())
+fn run_arguments(rt: &HostRuntime) -> anyhow::Result<ExitCode> {
+    let words: Vec<String> = env::args(rt)?.skip(1).collect(rt.alloc())?;
+    let words: Vec<&str> = words.iter().map(|word| word.as_str()).collect(rt.alloc())?;
+    match run(rt, words.as_slice())? {
+        0 => Ok(ExitCode::SUCCESS),
+        _ => Ok(ExitCode::FAILURE),
+    }
+}
+
+fn main(rt: HostRuntime) -> ExitCode {
+    match run_arguments(&rt) {
+        Ok(code) => code,
+        Err(error) => {
+            // There is nobody else to tell.
+            let _ = eprintln!(rt; "Error: {error:#}");
+            ExitCode::FAILURE
+        }
+    }
 }

@@ -1,4 +1,5 @@
 // Many recipes side by side, for choosing one.
+use crate::failure::Failure;
 use recipe_texts::text::read_text;
 use recipes::recipe::Recipe;
 use std::alloc::{AllocError, Global};
@@ -68,7 +69,10 @@ impl Survey {
         }
         match read_text(self.heap, text)? {
             Ok(recipe) => self.add(text, &recipe),
-            Err(error) => writeln!(self.refused, "{text}: {error}"),
+            Err(error) => {
+                let failure = Failure::from(error);
+                writeln!(self.refused, "{text}: {failure}")
+            }
         }
     }
 

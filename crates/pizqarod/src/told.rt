@@ -1,6 +1,7 @@
 // A call of a memory with its answer, as it prints.
 
 use crate::picture::Payload;
+use crate::refusal::Refusal;
 use lives::call::{Answer, Call};
 use std::fmt;
 
@@ -12,20 +13,35 @@ pub(crate) struct Told<'a> {
     pub(crate) payload: &'a [u8],
 }
 
+// What a call does.
+fn verb(call: Call<'_>) -> &'static str {
+    match call {
+        Call::Write { .. } => "write",
+        Call::Read { .. } => "read",
+        Call::Patrol { .. } => "patrol",
+        Call::Wear { .. } => "wear",
+    }
+}
+
 impl fmt::Display for Told<'_> {
     fn fmt<W: fmt::Write>(&self, f: &mut fmt::Formatter<W>) -> fmt::Result {
-        match self.call {
-            Call::Write { page, .. } => write!(f, "write page {page}: ")?,
-            Call::Read { page } => write!(f, "read page {page}: ")?,
-            Call::Patrol { page } => write!(f, "patrol page {page}: ")?,
-            Call::Wear { page, cell, .. } => write!(f, "wear page {page}, cell {cell}: ")?,
-        }
+        let verb = verb(self.call);
         match (self.call, self.answer) {
-            (_, Err(fault)) => write!(f, "{fault}"),
-            (Call::Write { .. }, Ok(blanks)) => write!(f, "{blanks} of its cells blank"),
-            (Call::Read { .. }, Ok(harm)) => write!(f, "harm {harm}, {}", Payload(self.payload)),
-            (Call::Patrol { .. }, Ok(harm)) => write!(f, "harm {harm}"),
-            (Call::Wear { state, .. }, Ok(_)) => write!(f, "{state}"),
+            (_, Err(fault)) => {
+                let refusal = Refusal(fault);
+                write!(f, "{verb}: {refusal}")
+            }
+            (Call::Write { page, .. }, Ok(blanks)) => {
+                write!(f, "{verb} page {page}: {blanks} of its cells blank")
+            }
+            (Call::Read { page }, Ok(harm)) => {
+                let bytes = Payload(self.payload);
+                write!(f, "{verb} page {page}: harm {harm}, {bytes}")
+            }
+            (Call::Patrol { page }, Ok(harm)) => write!(f, "{verb} page {page}: harm {harm}"),
+            (Call::Wear { page, cell, state }, Ok(_)) => {
+                write!(f, "{verb} page {page}, cell {cell}: {state}")
+            }
         }
     }
 }

@@ -3,8 +3,6 @@ use Rattle.std.proofs.Common.{◌≡◌, ℕ, ◌*◌, ◌<◌, ◌≤◌, Bool,
 use Rattle.std.proofs.lemmas.List.{length-map}
 use Rattle.std.proofs.lemmas.List.FromFn.{length-map-range_with_len}
 use Rattle.std.proofs.lemmas.List.Sums.{count_by-le-length}
-use mathlib.Core.List.{List-discrete}
-use native.Mathlib.Decide.{dec_lt, ℕ_discrete}
 use Rattle.words.specs.declared.fault.Fault.{Fault}
 use Rattle.words.specs.Harm.{harm, harm_at}
 use Rattle.words.specs.Faults.{on_page}
@@ -28,15 +26,6 @@ harm_bound [] marks codeword = omega arith
 harm_bound (s ∷ word) [] codeword = omega arith
 harm_bound (s ∷ word) (m ∷ marks) [] = omega arith
 harm_bound (s ∷ word) (m ∷ marks) (c ∷ codeword) = omega (arith, one_place s m c, harm_bound word marks codeword)
-
--- an answer that is small wherever a call is done is small, since a call that is not is refused
-pub small_where_done : (Done : Type 0) (R : Fault → Type 0) (bound : ℕ) (r : Result ℕ Fault) → (Done → IfOk r (λ n. n < bound)) → ((Done → ⊥) → MatchResult r (λ _. ⊥) R) → IfOk r (λ n. n < bound)
-small_where_done Done R bound (Err f) small refused = tt
-small_where_done Done R bound (Ok n) small refused = by (dec_lt n bound)
-  where
-    by : Dec (n < bound) → n < bound
-    by (yes l) = l
-    by (no not) = absurd (refused (λ d. not (small d)))
 
 module _ (bytes bytes' : List ℕ) (pages pages' cells cells' : ℕ) (c : CodeModel) (p : ℕ) (r : Result ℕ Fault) where
   abbrev Small : Result ℕ Fault → Type 0
@@ -77,15 +66,6 @@ module _ (bytes bytes' : List ℕ) (pages pages' cells cells' : ℕ) (c : CodeMo
       by None (Ok h) e o = subst Small (sym e) (subst (λ n. n < 2 ^ 31) (sym o.3) (harm_small fits o.0))
       by None (Err f) e o = subst Small (sym e) tt
       by (Some f) r' e o = subst Small (sym (e ∙ o.0)) tt
-
--- a buffer that a refused call leaves wherever its parts are joined, and wherever they are not, it leaves
-pub kept_where_refused : (Joined : Type 0) (old new : List ℕ) (r : Result ℕ Fault) → (Joined → IfErr r (λ _. new ≡ old)) → ((Joined → ⊥) → new ≡ old) → IfErr r (λ _. new ≡ old)
-kept_where_refused Joined old new (Ok n) joined unjoined = tt
-kept_where_refused Joined old new (Err f) joined unjoined = by (List-discrete ℕ_discrete new old)
-  where
-    by : Dec (new ≡ old) → new ≡ old
-    by (yes e) = e
-    by (no not) = unjoined (λ j. not (joined j))
 
 pub recalled_kept : (before after : MediumModel) (c : CodeModel) (p : ℕ) (payload payload' : List ℕ) (r : Result ℕ Fault) → Recalled before after c p payload payload' r → IfErr r (λ _. payload' ≡ payload)
 recalled_kept before after c p payload payload' r w = by (payload_refusal before c p payload) r w.1

@@ -3,7 +3,7 @@ use Rattle.std.specs.Prelude.{◌≡◌, ℕ, ◌≤◌, List, length, Err, Resu
 use Rattle.words.specs.declared.fault.Fault.{Fault}
 use Rattle.words.specs.declared.fault.Kind.TheVariants.{UnfitMedium, UnfitMemory}
 use Rattle.words.specs.declared.fault.Layer.TheVariants.{Medium, Memory}
-use Rattle.words.specs.Faults.{fault}
+use Rattle.words.specs.Faults.{fault, on_page}
 use Rattle.codes.specs.Model.{CodeModel}
 use Rattle.recipes.specs.declared.table.Table.{Table}
 use Rattle.recipes.specs.Meaning.{Describes}
@@ -55,20 +55,21 @@ module _ (t : Table) (pages : ℕ) where
     Puts page codeword =
         BitsPut before after (first_value (page_cells t) page) (first_mark (page_cells t) page) codeword (page_cells t)
 
--- any call: a recipe that describes nothing gives its own refusal, bytes that are not so many pages 21, and a page that holds no byte 19; else the call is done
-module _ (recipe : List ℕ) (pages : ℕ) (before after : List ℕ) (r : Result ℕ Fault) where
+-- any call on a page: a recipe that describes nothing gives its own refusal, bytes that are not so many pages 21, and a page that holds
+-- no byte 19; else the call is done
+module _ (recipe : List ℕ) (pages : ℕ) (before after : List ℕ) (page : ℕ) (r : Result ℕ Fault) where
   pub record Under (t : Table) (Done : Type 0) : Type 0 where
     pub done : Fit t pages before → 1 ≤ page_bytes (message_bits t) → Fit t pages after × Done
-    pub unfit : (Fit t pages before → ⊥) → r ≡ Err (fault UnfitMedium Medium (length before))
+    pub unfit : (Fit t pages before → ⊥) → r ≡ Err (on_page (fault UnfitMedium Medium (length before)) page)
     pub no_byte : Fit t pages before → page_bytes (message_bits t) ≡ 0 → r ≡ Err (fault UnfitMemory Memory 0)
 
   abbrev pub Called : (Table → Type 0) → Type 0
   Called Done =
       MatchOption (recipe_refusal recipe) ((t : Table) × Describes recipe t × Under t (Done t)) (λ f. r ≡ Err f)
 
-  -- every byte afterwards: a codeword is put to the page, or a refusal leaves all as it was
-  abbrev pub Left : (Table → Type 0) → Type 0
-  Left Put = MatchResult r (λ _. (t : Table) × Describes recipe t × Put t) (λ _. after ≡ before)
+-- every byte afterwards: a codeword is put to the page, or a refusal leaves all as it was
+abbrev pub Left : (recipe before after : List ℕ) → Result ℕ Fault → (Table → Type 0) → Type 0
+Left recipe before after r Put = MatchResult r (λ _. (t : Table) × Describes recipe t × Put t) (λ _. after ≡ before)
 
 -- the codeword that a page was corrected to is put back
 abbrev pub PutsBack : Table → ℕ → List ℕ → List ℕ → ℕ → Type 0

@@ -16,8 +16,8 @@ pub(crate) fn write(
     page: usize,
     payload: &[u8],
 ) -> Result<usize, Fault>
-    ensures called { Called recipe.now pages bytes.old bytes.new result (λ t. Writes t pages bytes.old bytes.new page payload.now result) }
-    ensures bytes { Left recipe.now pages bytes.old bytes.new result (λ t. Puts t pages bytes.old bytes.new page (recording (page_code t) payload.now)) }
+    ensures called { Called recipe.now pages bytes.old bytes.new page result (λ t. Writes t pages bytes.old bytes.new page payload.now result) }
+    ensures bytes { Left recipe.now bytes.old bytes.new result (λ t. Puts t pages bytes.old bytes.new page (recording (page_code t) payload.now)) }
     ensures small { IfOk result (λ n. n < 2 ^ 31) }
 {
     let layout = Layout::read(recipe)?;
@@ -41,7 +41,7 @@ pub(crate) fn read(
     page: usize,
     payload: &mut [u8],
 ) -> Result<usize, Fault>
-    ensures called { Called recipe.now pages bytes.old bytes.new result (λ t. Reads t pages bytes.old bytes.new page payload.old payload.new result) }
+    ensures called { Called recipe.now pages bytes.old bytes.new page result (λ t. Reads t pages bytes.old bytes.new page payload.old payload.new result) }
     ensures bytes { bytes.new ≡ bytes.old }
     ensures payload { IfErr result (λ _. payload.new ≡ payload.old) }
     ensures small { IfOk result (λ n. n < 2 ^ 31) }
@@ -66,8 +66,8 @@ pub(crate) fn patrol(
     bytes: &mut [u8],
     page: usize,
 ) -> Result<usize, Fault>
-    ensures called { Called recipe.now pages bytes.old bytes.new result (λ t. Patrols t pages bytes.old bytes.new page result) }
-    ensures bytes { Left recipe.now pages bytes.old bytes.new result (λ t. PutsBack t pages bytes.old bytes.new page) }
+    ensures called { Called recipe.now pages bytes.old bytes.new page result (λ t. Patrols t pages bytes.old bytes.new page result) }
+    ensures bytes { Left recipe.now bytes.old bytes.new result (λ t. PutsBack t pages bytes.old bytes.new page) }
     ensures small { IfOk result (λ n. n < 2 ^ 31) }
 {
     let layout = Layout::read(recipe)?;

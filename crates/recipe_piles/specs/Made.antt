@@ -1,7 +1,9 @@
 -- What the makers give: sound parts that are what the recipe names, and never a refusal. Assumes nothing.
-use Rattle.std.specs.Prelude.{◌≡◌, ℕ, ◌/◌, ◌^◌, ◌≤◌, List, [], ◌∷◌, map, take, Result, MatchResult}
+use Rattle.std.specs.Prelude.{◌≡◌, ℕ, ◌/◌, ◌^◌, ◌≤◌, List, [], ◌∷◌, map, Some, Result, MatchResult}
 use Rattle.words.specs.declared.fault.Fault.{Fault}
-use Rattle.codes.specs.Either.{either_sound as of_either}
+use Rattle.words.specs.Soundness.{Sound}
+use Rattle.either.specs.declared.Either.{Either}
+use Rattle.either.specs.declared.Either.TheVariants.{Left, Right}
 use Rattle.chains.specs.Model.{ChainModel}
 use Rattle.recipes.specs.declared.kinds.CodeKind.{CodeKind}
 use Rattle.recipes.specs.declared.kinds.CodeKind.TheVariants.{Open, ReedSolomon, Repetition, ExtendedReedSolomon}
@@ -9,17 +11,21 @@ use Rattle.recipes.specs.declared.table.Stage.{Stage}
 use Rattle.recipes.specs.declared.table.Table.{Table}
 use Rattle.recipes.specs.Totals.{used_stages}
 use Rattle.piles.specs.declared.pile.Pile.{Pile}
-use Rattle.piles.specs.Sound.{RefusesPile, SoundPile}
+use Rattle.piles.specs.Sound.{SoundParts, SoundPile, parts_refusal, stages_of}
 use Rattle.recipe_pile_laws.specs.Named.{named_chain, extension_constant}
 use Rattle.recipe_pile_laws.specs.Numbers.{PileDescribed}
 use Rattle.recipe_piles.specs.declared.parts.Parts.{Parts}
-use Rattle.recipe_piles.specs.Parts.{RecipeChain, StageCode, chain_model, chain_sound, code_model, code_refuses, code_sound, codes_of, models_of}
+use Rattle.recipe_piles.specs.Parts.{RecipeChain, StageCode, chain_model, chain_refusal, code_model, code_refusal, codes_of, models_of, recipe_chains, stage_codes}
 
 abbrev pub Made : {X : Type 0} → (X → Type 0) → Result X Fault → Type 0
 Made Is r = MatchResult r Is (λ _. ⊥)
 
 abbrev pub IsChain : ChainModel → RecipeChain → Type 0
-IsChain meant h = chain_sound h × (chain_model h ≡ meant)
+IsChain meant h = Sound chain_refusal h × (chain_model h ≡ meant)
+
+abbrev of_either : {X Y : Type 0} → (X → Type 0) → (Y → Type 0) → Either X Y → Type 0
+of_either P Q (Left x) = P x
+of_either P Q (Right y) = Q y
 
 abbrev none : {X : Type 0} → X → Type 0
 none _ = ⊥
@@ -35,7 +41,7 @@ OfKind ExtendedReedSolomon width n k =
     (of_either none (λ c. ((c.field.base.width ≡ width / 2) × (c.field.c ≡ extension_constant width)) × (c.len ≡ n) × (c.message_len ≡ k)))
 
 abbrev pub IsCode : CodeKind → ℕ → ℕ → ℕ → StageCode → Type 0
-IsCode kind width n k c = code_sound c × OfKind kind width n k c
+IsCode kind width n k c = Sound code_refusal c × OfKind kind width n k c
 
 abbrev pub StageHas : Stage → StageCode → Type 0
 StageHas s = IsCode s.kind s.width s.len s.message_len
@@ -60,12 +66,12 @@ pub record PartsOf (t : Table) (p : Parts) : Type 0 where
 -- parts make their pile, or are refused as a pile's are
 abbrev pub MakesPile : Parts → Result (Pile RecipeChain StageCode) Fault → Type 0
 MakesPile p r =
-    MatchResult r (λ (q : Pile RecipeChain StageCode). SoundPile (chain_sound p.chain) (chain_model p.chain) code_model code_sound (codes_of p) × (q.chain ≡ p.chain) × (take q.used q.stages ≡ codes_of p))
-    (RefusesPile (chain_sound p.chain) (chain_model p.chain) code_model code_sound code_refuses (codes_of p))
+    MatchResult r (λ q. (q.chain ≡ p.chain) × (stages_of recipe_chains stage_codes q ≡ codes_of p) × SoundParts recipe_chains stage_codes p.chain (codes_of p))
+    (λ f. parts_refusal recipe_chains stage_codes p.chain (codes_of p) ≡ Some f)
 
 -- the pile that a recipe describes
 pub record PileOf (t : Table) (p : Pile RecipeChain StageCode) : Type 0 where
-  pub sound : SoundPile (chain_sound p.chain) (chain_model p.chain) code_model code_sound (take p.used p.stages)
+  pub sound : SoundPile recipe_chains stage_codes p
   pub chain : IsChain (named_chain t.chain) p.chain
-  pub codes : StagesHave (used_stages t) (take p.used p.stages)
-  pub described : PileDescribed t (chain_model p.chain) (map code_model (take p.used p.stages))
+  pub codes : StagesHave (used_stages t) (stages_of recipe_chains stage_codes p)
+  pub described : PileDescribed t (chain_model p.chain) (map code_model (stages_of recipe_chains stage_codes p))

@@ -33,6 +33,7 @@ fn repetition_code(width: usize, len: usize) -> Result<StageCode, Fault>
     Ok(Either::Left(Either::Right(Repetition::new(width, len)?)))
 }
 
+#[tactic(auto, using(reed_solomon_laws::proofs::Fitting::none_of_kind))]
 fn polynomial_code(width: u8, len: usize, message_len: usize) -> Result<StageCode, Fault>
     requires { (1 ≤ width) × ((width ≤ 8) × (Lengths width len message_len)) }
     ensures { Made (IsCode the_polynomial width len message_len) result }
@@ -42,6 +43,7 @@ fn polynomial_code(width: u8, len: usize, message_len: usize) -> Result<StageCod
     Ok(Either::Right(Either::Left(code)))
 }
 
+#[tactic(auto, using(fields::proofs::Refusing::none_refused, reed_solomon_laws::proofs::Fitting::none_of_both))]
 fn extension_code(width: u8, len: usize, message_len: usize) -> Result<StageCode, Fault>
     requires { (RecipeWidth width) × (Lengths width len message_len) }
     ensures { Made (IsCode the_extension width len message_len) result }

@@ -1,2 +1,4 @@
 pub mod Outcomes
 pub mod Examples
+pub mod Making
+pub mod Values

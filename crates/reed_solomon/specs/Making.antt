@@ -9,13 +9,10 @@ use Rattle.field_laws.specs.Fields.{FieldModel}
 use Rattle.reed_solomon_laws.specs.Words.{InKind, Systematic}
 
 -- 13 of an unsound field comes first, then 14
-abbrev pub Refused : Type 0 → FieldModel → (n k : ℕ) → Fault → Type 0
-Refused Sound f n k e =
+abbrev pub Refuses : Type 0 → FieldModel → (n k : ℕ) → Fault → Type 0
+Refuses Sound f n k e =
     ((Sound → ⊥) → e ≡ unlawful) × (Sound → (InKind f n k → ⊥) × (e ≡ fault OutsideKind Code 0)) × (Sound → InKind f n k → ⊥)
-
-abbrev pub Fits : Type 0 → FieldModel → (n k : ℕ) → Result (Unit {0}) Fault → Type 0
-Fits Sound f n k r = MatchResult r (λ _. Sound × InKind f n k) (Refused Sound f n k)
 
 -- a code as it was asked for, whose codewords begin with their messages
 abbrev pub Makes : {C : Type 0} → Type 0 → FieldModel → (n k : ℕ) → (C → Type 0) → Result C Fault → Type 0
-Makes Sound f n k Is r = MatchResult r (λ c. (Sound × InKind f n k) × Is c × Systematic f n k) (Refused Sound f n k)
+Makes Sound f n k Is r = MatchResult r (λ c. (Sound × InKind f n k) × Is c × Systematic f n k) (Refuses Sound f n k)

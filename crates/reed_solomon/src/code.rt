@@ -1,9 +1,12 @@
 // The Reed-Solomon code of a field, a length and a message length.
-ghost use Rattle.std.specs.Prelude.{◌≡◌};
+ghost use Rattle.std.specs.Prelude.{◌≡◌, IfErr, None, OnOk, take};
+ghost use Rattle.words.specs.Buffers.{checked};
+ghost use Rattle.words.specs.Soundness.{Refused, Sound};
 ghost use Rattle.codes.specs.Parameters.{parameters_of};
-ghost use Rattle.reed_solomon_laws.specs.Words.{InKind, reed_solomon};
-ghost use Rattle.reed_solomon.specs.Making.{Fits, Makes, Refused};
-ghost use Rattle.reed_solomon_laws.proofs.Laws.{reed_solomon_lawful};
+ghost use Rattle.codes.specs.Promises.{Corrected, Encoded, Recovered};
+ghost use Rattle.reed_solomon_laws.specs.Words.{Codeword, refusal_over, reed_solomon};
+ghost use Rattle.reed_solomon.specs.Making.{Makes, Refuses};
+ghost use Rattle.reed_solomon_laws.proofs.Fitting.{code_lawful};
 
 use crate::codewords::{recognize, write_codeword};
 use crate::search::replace;
@@ -20,11 +23,11 @@ pub struct ReedSolomon<F> {
     message_len: usize,
 }
 
-impl<F: Field + Copy> ReedSolomon<F> {
+impl<F: Field + Drop> ReedSolomon<F> {
     /// The code of N = `len` and K = `message_len`. A field that is not sound refuses with 13; then 14 unless K is from 1 to N and
     /// N is at most the number of elements.
     pub fn new(field: F, len: usize, message_len: usize) -> Result<Self, Fault>
-        ensures { Makes (F.Field.sound field) (F.Field.model field) len message_len (λ (c : ReedSolomon F). (c.field ≡ field) × (c.len ≡ len) × (c.message_len ≡ message_len)) result }
+        ensures { Makes (Sound F.Field.refusal field) (F.Field.model field) len message_len (λ (c : ReedSolomon F). (c.field ≡ field) × (c.len ≡ len) × (c.message_len ≡ message_len)) result }
     {
         check_kind(&field, len, message_len)?;
         Ok(ReedSolomon {
@@ -37,7 +40,8 @@ impl<F: Field + Copy> ReedSolomon<F> {
 
 /// Ok if the field is sound and the lengths are those of the kind.
 fn check_kind<F: Field>(field: &F, len: usize, message_len: usize) -> Result<(), Fault>
-    ensures { Fits (F.sound field.now) (F.model field.now) len message_len result }
+    ensures refused { result ≡ checked (refusal_over (F.refusal field.now) (F.model field.now) len message_len) }
+    ensures order { IfErr result (Refuses (Sound F.refusal field.now) (F.model field.now) len message_len) }
 {
     field.check()?;
     if len > 1 << field.width() || !(1..=len).contains(&message_len) {
@@ -48,7 +52,7 @@ fn check_kind<F: Field>(field: &F, len: usize, message_len: usize) -> Result<(),
 
 impl<F: Field> ReedSolomon<F> {
     fn parameters(&self) -> Parameters
-        requires { F.Field.sound self.now.field }
+        requires { Sound F.Field.refusal self.now.field }
         ensures { result ≡ parameters_of (reed_solomon (F.Field.model self.now.field) self.now.len self.now.message_len) }
     {
         Parameters {
@@ -62,11 +66,9 @@ impl<F: Field> ReedSolomon<F> {
 impl<F: Field> Code for ReedSolomon<F> {
     ghost model = { λ c. reed_solomon (F.Field.model c.field) c.len c.message_len };
 
-    ghost sound = { λ c. F.Field.sound c.field × InKind (F.Field.model c.field) c.len c.message_len };
+    ghost refusal = { λ c. refusal_over (F.Field.refusal c.field) (F.Field.model c.field) c.len c.message_len };
 
-    ghost refuses = { λ c. Refused (F.Field.sound c.field) (F.Field.model c.field) c.len c.message_len };
-
-    ghost lawful = { λ c s. reed_solomon_lawful (F.Field.model c.field) (F.Field.lawful c.field s.0) c.len c.message_len s.1 };
+    ghost lawful = { λ c s. code_lawful (F.Field.model c.field) c.len c.message_len (F.Field.refusal c.field) (F.Field.lawful c.field) s };
 
     fn check(&self) -> Result<(), Fault> {
         check_kind(&self.field, self.len, self.message_len)
@@ -76,11 +78,16 @@ impl<F: Field> Code for ReedSolomon<F> {
         self.field.width() as usize
     }
 
-    fn len(&self) -> usize {
+    // Of any code, sound or not, its length and message length are those that it was asked for.
+    fn len(&self) -> usize
+        ensures { result ≡ self.now.len }
+    {
         self.len
     }
 
-    fn message_len(&self) -> usize {
+    fn message_len(&self) -> usize
+        ensures { result ≡ self.now.message_len }
+    {
         self.message_len
     }
 
@@ -88,14 +95,36 @@ impl<F: Field> Code for ReedSolomon<F> {
         self.len.saturating_sub(self.message_len).saturating_add(1)
     }
 
-    fn encode(&self, message: &[u8], word: &mut [u8]) -> Result<(), Fault> {
+    /// Writes the codeword of a message: the values of one polynomial of K coefficients, of which the first K are the message.
+    fn encode(&self, message: &[u8], word: &mut [u8]) -> Result<(), Fault>
+        ensures sound { refusal_over (F.refusal self.now.field) (F.model self.now.field)
+            self.now.len self.now.message_len ≡ None →
+            Encoded (reed_solomon (F.model self.now.field) self.now.len self.now.message_len)
+            message.now word.old word.new result }
+        ensures refused { Refused (refusal_over (F.refusal self.now.field) (F.model self.now.field)
+            self.now.len self.now.message_len) result (word.new ≡ word.old) }
+        ensures values { OnOk result (Codeword (F.model self.now.field)
+            self.now.len self.now.message_len word.new) }
+        ensures begins { OnOk result (take self.now.message_len word.new ≡ message.now) }
+    {
         self.check()?;
         self.parameters().check_encode(message, word)?;
         write_codeword(&self.field, message, word);
         Ok(())
     }
 
-    fn message_of(&self, word: &[u8], message: &mut [u8]) -> Result<(), Fault> {
+    /// Writes the message of a codeword, its first K symbols. A word that is accepted is the values of one polynomial of K coefficients.
+    fn message_of(&self, word: &[u8], message: &mut [u8]) -> Result<(), Fault>
+        ensures sound { refusal_over (F.refusal self.now.field) (F.model self.now.field)
+            self.now.len self.now.message_len ≡ None →
+            Recovered (reed_solomon (F.model self.now.field) self.now.len self.now.message_len)
+            word.now message.old message.new result }
+        ensures refused { Refused (refusal_over (F.refusal self.now.field) (F.model self.now.field)
+            self.now.len self.now.message_len) result (message.new ≡ message.old) }
+        ensures values { OnOk result (Codeword (F.model self.now.field)
+            self.now.len self.now.message_len word.now) }
+        ensures begins { OnOk result (take self.now.message_len word.now ≡ message.new) }
+    {
         self.check()?;
         self.parameters().check_message_of(word, message)?;
         recognize(&self.field, &word[..self.message_len], word)?;
@@ -103,7 +132,17 @@ impl<F: Field> Code for ReedSolomon<F> {
         Ok(())
     }
 
-    fn correct(&self, word: &mut [u8], marks: &[u8]) -> Result<usize, Fault> {
+    /// Puts the near codeword in place of a word: the values of one polynomial of K coefficients.
+    fn correct(&self, word: &mut [u8], marks: &[u8]) -> Result<usize, Fault>
+        ensures sound { refusal_over (F.refusal self.now.field) (F.model self.now.field)
+            self.now.len self.now.message_len ≡ None →
+            Corrected (reed_solomon (F.model self.now.field) self.now.len self.now.message_len)
+            word.old marks.now word.new result }
+        ensures refused { Refused (refusal_over (F.refusal self.now.field) (F.model self.now.field)
+            self.now.len self.now.message_len) result (word.new ≡ word.old) }
+        ensures values { OnOk result (Codeword (F.model self.now.field)
+            self.now.len self.now.message_len word.new) }
+    {
         self.check()?;
         self.parameters().check_correct(word, marks)?;
         replace(&self.field, self.message_len, word, marks)

@@ -1,9 +1,9 @@
 // Arithmetic on elements of a sound field. There no call refuses, so each answer is there.
 //
-// That the field is sound stands in each contract, since no struct can hold it: a field's own fact may have several proofs, which a ghost
-// field refuses, and a truncated one gives no laws to the proofs about interpolation. That operands are elements stands in each too,
-// here and in the passes, the key equation and the interpolation: they are numbers handed in, others at each call, and no value holds them.
+// That the field is sound and operands are elements stands in each contract, here and in the passes, the key equation and the interpolation:
+// both are of what is handed in, a field that is lent and other numbers at each call, and no value holds them.
 ghost use Rattle.std.specs.Prelude.{◌≡◌, ◌<◌, Some, ◌≢◌};
+ghost use Rattle.words.specs.Soundness.{Sound};
 ghost use Rattle.field_laws.specs.Fields.{size as field_size};
 
 use fields::field::Field;
@@ -12,14 +12,14 @@ use fields::field::Field;
 pub(crate) const MOST_SYMBOLS: usize = 256;
 
 pub(crate) fn add<F: Field>(field: &F, a: u8, b: u8) -> u8
-    requires { (F.sound field.now) × ((a < field_size (F.model field.now)) × (b < field_size (F.model field.now))) }
+    requires { (Sound F.refusal field.now) × ((a < field_size (F.model field.now)) × (b < field_size (F.model field.now))) }
     ensures { (result ≡ (F.model field.now).sum a b) × (result < field_size (F.model field.now)) }
 {
     field.sum(a, b).unwrap()
 }
 
 pub(crate) fn multiply<F: Field>(field: &F, a: u8, b: u8) -> u8
-    requires { (F.sound field.now) × ((a < field_size (F.model field.now)) × (b < field_size (F.model field.now))) }
+    requires { (Sound F.refusal field.now) × ((a < field_size (F.model field.now)) × (b < field_size (F.model field.now))) }
     ensures { (result ≡ (F.model field.now).product a b) × (result < field_size (F.model field.now)) }
 {
     field.product(a, b).unwrap()
@@ -27,7 +27,7 @@ pub(crate) fn multiply<F: Field>(field: &F, a: u8, b: u8) -> u8
 
 /// The inverse of an element that is not zero.
 pub(crate) fn invert<F: Field>(field: &F, a: u8) -> u8
-    requires { (F.sound field.now) × ((a < field_size (F.model field.now)) × (a ≢ 0)) }
+    requires { (Sound F.refusal field.now) × ((a < field_size (F.model field.now)) × (a ≢ 0)) }
     ensures { ((F.model field.now).reciprocal a ≡ Some result) × (result < field_size (F.model field.now)) }
 {
     field.inverse(a).unwrap().unwrap()

@@ -1,5 +1,6 @@
 // Newton's interpolation by values: one place after another is brought to the symbol that was read there.
 ghost use Rattle.std.specs.Prelude.{◌≡◌, ◌<◌, ◌≤◌, ◌&&◌, length, ◌==◌, ◌≢◌, nat_lt, slice_index};
+ghost use Rattle.words.specs.Soundness.{Sound};
 ghost use Rattle.field_laws.specs.Fields.{size as field_size};
 ghost use Rattle.reed_solomon_laws.proofs.Arrays.{Interpolated, Taken};
 ghost use Rattle.reed_solomon.specs.Passes.{Beside, Rows};
@@ -10,7 +11,7 @@ use fields::field::Field;
 
 /// Brings v to a symbol at x by a multiple of p, which vanishes at the places taken before, and makes x a root of p too.
 fn take_place<F: Field>(field: &F, x: usize, symbol: u8, v: &mut [u8], p: &mut [u8])
-    requires { (F.sound field.now) × ((x < length p.old) × ((length p.old ≤ field_size (F.model field.now)) × ((symbol < field_size (F.model field.now)) × (Beside (F.model field.now) p.old v.old × (slice_index p.old x ≢ 0))))) }
+    requires { (Sound F.refusal field.now) × ((x < length p.old) × ((length p.old ≤ field_size (F.model field.now)) × ((symbol < field_size (F.model field.now)) × (Beside (F.model field.now) p.old v.old × (slice_index p.old x ≢ 0))))) }
     ensures { Taken (F.model field.now) (length p.old) x symbol v.old p.old v.new p.new }
 {
     let off = add(field, symbol, v[x]);
@@ -36,7 +37,7 @@ pub(crate) fn through<F: Field>(
     v: &mut [u8],
     p: &mut [u8],
 ) -> usize
-    requires { (F.sound field.now) × (Rows (F.model field.now) symbols.now skip.now v.old p.old) }
+    requires { (Sound F.refusal field.now) × (Rows (F.model field.now) symbols.now skip.now v.old p.old) }
     ensures { Interpolated (F.model field.now) (length v.old) wanted symbols.now skip.now (length symbols.now) v.new p.new result }
 {
     v.fill(0);

@@ -3,6 +3,7 @@
 //
 // Work space is arrays of the most symbols that a word has, since the library has no heap.
 ghost use Rattle.std.specs.Prelude.{◌≡◌, ◌<◌, ◌≤◌, length, if◌then◌else◌, ◌≢◌};
+ghost use Rattle.words.specs.Soundness.{Sound};
 ghost use Rattle.field_laws.specs.Fields.{size as field_size};
 ghost use Rattle.reed_solomon_laws.proofs.Arrays.{Eliminated, Located, miss as missed};
 ghost use Rattle.reed_solomon.specs.Passes.{Over, HasElement, Beside, Follows, combination, with_root, Pairs, Advanced, Readings, Lengths, Skips, Rightful};
@@ -13,7 +14,7 @@ use fields::field::Field;
 
 /// (y + g) / p
 fn quotient<F: Field>(field: &F, y: u8, g: u8, p: u8) -> u8
-    requires { (F.sound field.now) × ((y < field_size (F.model field.now)) × ((g < field_size (F.model field.now)) × ((p < field_size (F.model field.now)) × (p ≢ 0)))) }
+    requires { (Sound F.refusal field.now) × ((y < field_size (F.model field.now)) × ((g < field_size (F.model field.now)) × ((p < field_size (F.model field.now)) × (p ≢ 0)))) }
     ensures { (Over (F.model field.now) y g p result) × (result < field_size (F.model field.now)) }
 {
     multiply(field, add(field, y, g), invert(field, p))
@@ -30,7 +31,7 @@ struct Pair<'a> {
 impl Pair<'_> {
     /// q + t·e at the place x
     fn miss<F: Field>(&self, field: &F, x: usize, t: u8) -> u8
-        requires { (F.sound field.now) × ((t < field_size (F.model field.now)) × (HasElement (F.model field.now) x self.now.q.now × HasElement (F.model field.now) x self.now.e.now)) }
+        requires { (Sound F.refusal field.now) × ((t < field_size (F.model field.now)) × (HasElement (F.model field.now) x self.now.q.now × HasElement (F.model field.now) x self.now.e.now)) }
         ensures { (result ≡ missed (F.model field.now) x t self.now.q.now self.now.e.now) × (result < field_size (F.model field.now)) }
     {
         add(field, self.q[x], multiply(field, t, self.e[x]))
@@ -38,7 +39,7 @@ impl Pair<'_> {
 
     /// a times this pair, plus b times the pivot
     fn combine<F: Field>(&mut self, field: &F, a: u8, b: u8, pivot: &Pair)
-        requires { (F.sound field.now) × (((a < field_size (F.model field.now)) × (b < field_size (F.model field.now))) × (Pairs (F.model field.now) (length pivot.now.q.now) pivot.now.q.now pivot.now.e.now self.old.q.now self.old.e.now)) }
+        requires { (Sound F.refusal field.now) × (((a < field_size (F.model field.now)) × (b < field_size (F.model field.now))) × (Pairs (F.model field.now) (length pivot.now.q.now) pivot.now.q.now pivot.now.e.now self.old.q.now self.old.e.now)) }
         ensures q { Follows self.new.q.now (length pivot.now.q.now) (combination (F.model field.now) a self.old.q.now b pivot.now.q.now) }
         ensures e { Follows self.new.e.now (length pivot.now.q.now) (combination (F.model field.now) a self.old.e.now b pivot.now.e.now) }
         ensures same { (length self.new.q.now ≡ length self.old.q.now) × (length self.new.e.now ≡ length self.old.e.now) × (self.new.bound ≡ self.old.bound) }
@@ -49,7 +50,7 @@ impl Pair<'_> {
 
     /// (X + x) times this pair
     fn add_root<F: Field>(&mut self, field: &F, x: u8)
-        requires { (F.sound field.now) × ((x < field_size (F.model field.now)) × ((length self.old.q.now ≤ field_size (F.model field.now)) × (Beside (F.model field.now) self.old.q.now self.old.e.now))) }
+        requires { (Sound F.refusal field.now) × ((x < field_size (F.model field.now)) × ((length self.old.q.now ≤ field_size (F.model field.now)) × (Beside (F.model field.now) self.old.q.now self.old.e.now))) }
         ensures q { Follows self.new.q.now (length self.old.q.now) (with_root (F.model field.now) x self.old.q.now) }
         ensures e { Follows self.new.e.now (length self.old.q.now) (with_root (F.model field.now) x self.old.e.now) }
         ensures same { (length self.new.q.now ≡ length self.old.q.now) × (length self.new.e.now ≡ length self.old.e.now) × (self.new.bound ≡ self.old.bound) }
@@ -68,7 +69,7 @@ fn eliminate<F: Field>(
     other_gap: u8,
     other: &mut Pair,
 )
-    requires { (F.sound field.now) × (((x < length pivot.old.q.now) × (length pivot.old.q.now ≤ field_size (F.model field.now))) × (((gap < field_size (F.model field.now)) × (other_gap < field_size (F.model field.now))) × (Pairs (F.model field.now) (length pivot.old.q.now) pivot.old.q.now pivot.old.e.now other.old.q.now other.old.e.now))) }
+    requires { (Sound F.refusal field.now) × (((x < length pivot.old.q.now) × (length pivot.old.q.now ≤ field_size (F.model field.now))) × (((gap < field_size (F.model field.now)) × (other_gap < field_size (F.model field.now))) × (Pairs (F.model field.now) (length pivot.old.q.now) pivot.old.q.now pivot.old.e.now other.old.q.now other.old.e.now))) }
     ensures eliminated { Eliminated (F.model field.now) (length pivot.old.q.now) x gap other_gap pivot.old.q.now pivot.old.e.now other.old.q.now other.old.e.now pivot.new.q.now pivot.new.e.now other.new.q.now other.new.e.now }
     ensures lengths { Lengths (length pivot.old.q.now) pivot.new.q.now pivot.new.e.now other.new.q.now other.new.e.now }
     ensures bounds { (pivot.new.bound ≡ pivot.old.bound) × (other.new.bound ≡ other.old.bound) }
@@ -81,7 +82,7 @@ fn eliminate<F: Field>(
 /// the smaller bound, of equal bounds the first. Answers whether it is the first: one word for a pair that the caller has, where a
 /// reference back would be no plainer.
 fn advance<F: Field>(field: &F, x: usize, t: u8, first: &mut Pair, second: &mut Pair) -> bool
-    requires { (F.sound field.now) × (((x < length first.old.q.now) × (length first.old.q.now ≤ field_size (F.model field.now))) × ((t < field_size (F.model field.now)) × (Pairs (F.model field.now) (length first.old.q.now) first.old.q.now first.old.e.now second.old.q.now second.old.e.now))) }
+    requires { (Sound F.refusal field.now) × (((x < length first.old.q.now) × (length first.old.q.now ≤ field_size (F.model field.now))) × ((t < field_size (F.model field.now)) × (Pairs (F.model field.now) (length first.old.q.now) first.old.q.now first.old.e.now second.old.q.now second.old.e.now))) }
     ensures advanced { Advanced (F.model field.now) (length first.old.q.now) x t (first.old.bound, second.old.bound) first.old.q.now first.old.e.now second.old.q.now second.old.e.now first.new.q.now first.new.e.now second.new.q.now second.new.e.now result }
     ensures lengths { Lengths (length first.old.q.now) first.new.q.now first.new.e.now second.new.q.now second.new.e.now }
     ensures bounds { (first.new.bound ≡ first.old.bound) × (second.new.bound ≡ second.old.bound) }
@@ -121,7 +122,7 @@ impl<F: Field> KeyEquation<'_, F> {
     /// Solves the equation over the readable places outside the choice that p vanishes at. Answers whether the first of the two pairs
     /// has the smaller bound.
     fn solve(&self, first: &mut Pair, second: &mut Pair) -> bool
-        requires { (F.sound self.now.field.now) × ((Readings (F.model self.now.field.now) self.now.word.now self.now.marks.now self.now.g.now self.now.p.now) × (Lengths (length self.now.word.now) first.old.q.now first.old.e.now second.old.q.now second.old.e.now)) }
+        requires { (Sound F.refusal self.now.field.now) × ((Readings (F.model self.now.field.now) self.now.word.now self.now.marks.now self.now.g.now self.now.p.now) × (Lengths (length self.now.word.now) first.old.q.now first.old.e.now second.old.q.now second.old.e.now)) }
         ensures located { Located (F.model self.now.field.now) (length self.now.word.now) self.now.word.now self.now.marks.now self.now.g.now self.now.p.now (if result then first.new.e.now else second.new.e.now) }
         ensures lengths { Lengths (length self.now.word.now) first.new.q.now first.new.e.now second.new.q.now second.new.e.now }
     {
@@ -147,7 +148,7 @@ impl<F: Field> KeyEquation<'_, F> {
 
     /// Marks in `skip` each place but the readable ones that a solution of the equation shows to be right.
     pub(crate) fn locate(&self, skip: &mut [u8])
-        requires { (F.sound self.now.field.now) × ((Readings (F.model self.now.field.now) self.now.word.now self.now.marks.now self.now.g.now self.now.p.now) × ((length skip.old ≡ length self.now.word.now) × (length self.now.word.now ≤ 256))) }
+        requires { (Sound F.refusal self.now.field.now) × ((Readings (F.model self.now.field.now) self.now.word.now self.now.marks.now self.now.g.now self.now.p.now) × ((length skip.old ≡ length self.now.word.now) × (length self.now.word.now ≤ 256))) }
         ensures { Rightful (F.model self.now.field.now) self.now.word.now self.now.marks.now self.now.g.now self.now.p.now skip.new }
     {
         let n = self.word.len();

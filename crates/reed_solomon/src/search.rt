@@ -1,6 +1,7 @@
 // The search for the codeword that lies near to a word.
 // Work space is arrays of the most symbols that a word has, since the library has no heap.
 ghost use Rattle.std.specs.Prelude.{◌≡◌, ◌+◌, ◌-◌, ◌≤◌, length};
+ghost use Rattle.words.specs.Soundness.{Sound};
 ghost use Rattle.reed_solomon.specs.Finding.{Received, Guessed, Found, Replaced};
 
 use crate::elements::MOST_SYMBOLS;
@@ -33,7 +34,7 @@ impl<F: Field> Damaged<'_, F> {
     /// Puts the values through the first K places that are not skipped into `found`, and answers the word's harm against them.
     /// Refuses with 12 if there are fewer places, or if the harm is not below the distance.
     fn guess(&self, skip: &[u8], found: &mut [u8], product: &mut [u8]) -> Result<usize, Fault>
-        requires { (F.sound self.now.field.now) × ((Received (F.model self.now.field.now) self.now.k self.now.word.now self.now.marks.now) × ((length skip.now ≡ length self.now.word.now) × (length found.old ≡ length self.now.word.now) × (length product.old ≡ length self.now.word.now))) }
+        requires { (Sound F.refusal self.now.field.now) × ((Received (F.model self.now.field.now) self.now.k self.now.word.now self.now.marks.now) × ((length skip.now ≡ length self.now.word.now) × (length found.old ≡ length self.now.word.now) × (length product.old ≡ length self.now.word.now))) }
         ensures { Guessed (F.model self.now.field.now) self.now.k self.now.word.now self.now.marks.now skip.now found.new product.new result }
     {
         let taken = through(self.field, self.k, self.word, skip, found, product);
@@ -49,7 +50,7 @@ impl<F: Field> Damaged<'_, F> {
     /// word with little damage agrees with the values through its first readable places; otherwise the key equation shows places
     /// that are right.
     fn find(&self, found: &mut [u8]) -> Result<usize, Fault>
-        requires { (F.sound self.now.field.now) × ((Received (F.model self.now.field.now) self.now.k self.now.word.now self.now.marks.now) × ((length found.old ≡ length self.now.word.now) × (length self.now.word.now ≤ 256))) }
+        requires { (Sound F.refusal self.now.field.now) × ((Received (F.model self.now.field.now) self.now.k self.now.word.now self.now.marks.now) × ((length found.old ≡ length self.now.word.now) × (length self.now.word.now ≤ 256))) }
         ensures { Found (F.model self.now.field.now) self.now.k self.now.word.now self.now.marks.now found.new result }
     {
         let n = self.word.len();
@@ -79,7 +80,7 @@ pub(crate) fn replace<F: Field>(
     word: &mut [u8],
     marks: &[u8],
 ) -> Result<usize, Fault>
-    requires { (F.sound field.now) × ((Received (F.model field.now) k word.old marks.now) × (length word.old ≤ 256)) }
+    requires { (Sound F.refusal field.now) × ((Received (F.model field.now) k word.old marks.now) × (length word.old ≤ 256)) }
     ensures { Replaced (F.model field.now) k word.old marks.now word.new result }
 {
     let mut room = [0; MOST_SYMBOLS];

@@ -1,7 +1,7 @@
 // The calls of a code beside the decoder's answers.
-use crate::decoder::{Decoder, readings};
 use crate::tally::Tally;
 use crate::trials::{Draw, Trial};
+use by_elimination::decoder::{Decoder, readings};
 use codes::code::Code;
 use fields::field::Field;
 use reed_solomon::code::ReedSolomon;

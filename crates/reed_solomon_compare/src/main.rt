@@ -1,15 +1,13 @@
 // Compares the calls of Reed-Solomon codes with a decoder of this program's own, on words that are made at random.
 #![tactic(auto)]
 
-mod arithmetic;
 mod comparison;
-mod decoder;
 mod tally;
 mod trials;
 
-use arithmetic::{Products, Rule};
+use by_elimination::arithmetic::{Products, Rule};
+use by_elimination::decoder::Decoder;
 use comparison::{Comparison, Stop};
-use decoder::Decoder;
 use fields::field::Field;
 use fields::polynomial::Polynomial;
 use fields::worked::recipe_extension;

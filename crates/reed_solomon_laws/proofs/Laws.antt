@@ -84,6 +84,7 @@ module _ (f : FieldModel) (laws : FieldLaws f) (n k : ℕ) (kind : InKind f n k)
         let e = codeword_elements f laws n kind.0 k ((reed_solomon f n k).codeword u) (codeword_is u s) in
         (e.0, All-from_get_or (λ x. x < size f) ((reed_solomon f n k).codeword u) 0 (λ j l. e.1 j (omega (arith, e.0))));
     apart = λ u v su sv ne. far u v su sv ne;
+    one_place = λ word marks beside p q blamed blamed'. blamed ∙ sym blamed';
   }
     where
       far : (u v : List ℕ) → Symbols f.width k u → Symbols f.width k v → (u ≡ v → ⊥) → n - k + 1 ≤ differences ((reed_solomon f n k).codeword u) ((reed_solomon f n k).codeword v)

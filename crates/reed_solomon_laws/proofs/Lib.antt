@@ -9,3 +9,4 @@ pub mod Counts
 pub mod Complete
 pub mod Steps
 pub mod Numbers
+pub mod Fitting

@@ -1,7 +1,12 @@
 -- Reed-Solomon codes over a field: the values of polynomials of degree below K at the elements numbered 0 to N - 1. Assumes nothing.
-use Rattle.std.specs.Prelude.{◌≡◌, ℕ, zero, suc, ◌+◌, ◌-◌, ◌≤◌, List, [], ◌∷◌, map, take, slice_index}
+use Rattle.std.specs.Prelude.{◌≡◌, ℕ, zero, suc, ◌+◌, ◌-◌, ◌≤◌, cond, ◌&&◌, List, [], ◌∷◌, map, take, Some, None, Option, nat_le, slice_index}
 use Rattle.std.specs.List.{range_with_len}
 use Rattle.std.specs.Option.{unwrap_or}
+use Rattle.words.specs.declared.fault.Fault.{Fault}
+use Rattle.words.specs.declared.fault.Kind.TheVariants.{OutsideKind}
+use Rattle.words.specs.declared.fault.Layer.TheVariants.{Code}
+use Rattle.words.specs.Buffers.{either}
+use Rattle.words.specs.Faults.{fault}
 use Rattle.field_laws.specs.Fields.{FieldModel, size}
 use Rattle.codes.specs.Model.{CodeModel, Symbols}
 
@@ -45,6 +50,14 @@ reed_solomon f n k = record {
 -- which lengths the kind takes over a field
 abbrev pub InKind : FieldModel → ℕ → ℕ → Type 0
 InKind f n k = (n ≤ size f) × (1 ≤ k) × (k ≤ n)
+
+-- and by which fault it refuses the others
+abbrev pub kind_refusal : FieldModel → ℕ → ℕ → Option Fault
+kind_refusal f n k = cond (nat_le n (size f) && (nat_le 1 k && nat_le k n)) None (Some (fault OutsideKind Code 0))
+
+-- the refusal of the field comes first
+abbrev pub refusal_over : Option Fault → FieldModel → ℕ → ℕ → Option Fault
+refusal_over below f n k = either below (kind_refusal f n k)
 
 -- the codeword of a message is the one codeword that begins with it
 abbrev pub Systematic : FieldModel → ℕ → ℕ → Type 0

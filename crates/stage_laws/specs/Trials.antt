@@ -29,7 +29,3 @@ Fitting c d es = (length es ≡ c.len) × AllByRecursion (λ e. trial_symbol e <
 abbrev pub Tried : CodeModel → ℕ → List (Option Estimate) → ℕ → List ℕ → Option ℕ → Type 0
 Tried c d es t word r =
     options.MatchOption r ((u : List ℕ) → Chosen c d es u → c.distance ≤ trial_harm t es (c.codeword u)) (λ h. Accepted c d es word h)
-
--- the trials together give the choice, or show that there is none
-abbrev pub Found : CodeModel → ℕ → List (Option Estimate) → List ℕ → Option ℕ → Type 0
-Found c d es word r = options.MatchOption r ((u : List ℕ) → Chosen c d es u → ⊥) (λ h. Accepted c d es word h)

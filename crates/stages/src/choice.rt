@@ -1,6 +1,6 @@
 // A stage's choice.
 ghost use Rattle.std.specs.Prelude.{◌≡◌, None};
-ghost use Rattle.codes.specs.Promises.{Refused};
+ghost use Rattle.words.specs.Soundness.{Refused, Sound};
 ghost use Rattle.stage_laws.specs.Rule.{OneChoice};
 ghost use Rattle.stage_laws.specs.Promises.{Chose, choose_refusal};
 
@@ -16,19 +16,18 @@ fn choose_soundly<C: Code>(
     columns: Columns<'_>,
     word: &mut [u8],
 ) -> Result<Option<usize>, Fault>
-    requires { C.Code.sound code.now }
+    requires { Sound C.Code.refusal code.now }
     ensures { Chose (C.Code.model code.now) columns.entry.inner columns.entry.estimates.now word.old word.new result }
 {
     let len = code.len();
     columns.check(1 << code.width(), len, word)?;
     let mut room = [0; MOST_CELLS];
     let mut marks = [0; MOST_CELLS];
-    let candidate = &mut room[..len];
-    let found = columns.search(code, candidate, &mut marks[..len]);
-    if found.is_some() {
-        word.copy_from_slice(candidate);
-    }
-    Ok(found)
+    let Some(accepted) = columns.search(code, &mut room[..len], &mut marks[..len]) else {
+        return Ok(None);
+    };
+    word.copy_from_slice(accepted.candidate);
+    Ok(Some(accepted.score))
 }
 
 /// Puts the codeword that the estimates of a stage's columns decide for into the word and answers its score, or leaves
@@ -39,9 +38,9 @@ pub fn choose<C: Code>(
     estimates: &[Option<Estimate>],
     word: &mut [u8],
 ) -> Result<Option<usize>, Fault>
-    ensures sound { C.Code.sound code.now → Chose (C.Code.model code.now) inner estimates.now word.old word.new result }
-    ensures unsound { (C.Code.sound code.now → ⊥) → Refused (C.Code.refuses code.now) result × (word.new ≡ word.old) }
-    ensures only { C.Code.sound code.now → choose_refusal (C.Code.model code.now) inner estimates.now word.old ≡ None → OneChoice (C.Code.model code.now) inner estimates.now }
+    ensures sound { Sound C.Code.refusal code.now → Chose (C.Code.model code.now) inner estimates.now word.old word.new result }
+    ensures refused { Refused (C.Code.refusal code.now) result (word.new ≡ word.old) }
+    ensures only { Sound C.Code.refusal code.now → choose_refusal (C.Code.model code.now) inner estimates.now word.old ≡ None → OneChoice (C.Code.model code.now) inner estimates.now }
 {
     code.check()?;
     choose_soundly(code, Columns { inner, estimates }, word)

@@ -1,8 +1,9 @@
 -- The worked examples of the rules, together. Each is stated of what the contracts of the calls speak of. Assumes nothing.
-use Rattle.std.specs.Prelude.{◌≡◌, ℕ, Err, Result}
+use Rattle.std.specs.Prelude.{◌≡◌, ℕ, None, Err, Result}
 use Rattle.words.specs.declared.fault.Fault.{Fault}
 use Rattle.words.specs.declared.fault.Kind.TheVariants.{NoCodeword}
 use Rattle.words.specs.Faults.{number_of}
+use Rattle.words.specs.Soundness.{Sound}
 use Rattle.field_laws.specs.Extensions.{Extends}
 use Rattle.field_laws.specs.Polynomials.{polynomial}
 use Rattle.fields.specs.declared.extension.Extension.{Extension}
@@ -14,9 +15,9 @@ use Rattle.codes.specs.Examples.{RepetitionExample}
 use Rattle.chains.specs.Examples.{MullerExamples}
 use Rattle.stage_laws.specs.Examples.{StageExample}
 
--- what the maker of extensions promises of a polynomial field, which is always sound, and of c
+-- what the maker of extensions promises of a polynomial field, which is never refused, and of c
 abbrev pub MakesExtension : Polynomial → ℕ → Result (Extension Polynomial) Fault → Type 0
-MakesExtension base c = Makes (Unit {0} × Extends (polynomial base.width) c) (λ (x : Extension Polynomial). (x.base ≡ base) × (x.c ≡ c))
+MakesExtension base c = Makes (Sound (λ (_ : Polynomial). None) base × Extends (polynomial base.width) c) (λ (x : Extension Polynomial). (x.base ≡ base) × (x.c ≡ c))
 
 pub record WorkedExamples : Type 0 where
   -- 2·5 = 1 at width 3, 2·0x8E = 1 at width 8, and 16·16 = 24 over width 4 with c = 8

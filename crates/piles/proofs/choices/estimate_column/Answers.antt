@@ -11,7 +11,6 @@ pub returns : goal.returns
 returns g c =
     let chain = c.args.chain.now in
     let h = g.H.Chain.model chain in
-    let S = g.H.Chain.sound chain in
     let s = c.requires.chain.0 in
     let law = g.met.H.Chain.lawful chain s in
     let k = c.args.chosen in
@@ -22,5 +21,5 @@ returns g c =
     let room : length (take k (replicate {A = ℕ} 5 0)) ≡ k = length-take-le k (replicate {A = ℕ} 5 0) few in
     let is : labels ≡ labels_at (words_in c.args.columns k c.args.words.now) c.args.j = c.gather.ensures ∙ ap (λ (n : ℕ). labels_at (words_in c.args.columns n c.args.words.now) c.args.j) room in
     let long : length labels ≡ suc k - 1 = c.gather.auto.labels ∙ room ∙ omega arith in
-    let answer = estimated_answer h law S (suc k) labels cells marks c.estimate.result s c.requires.chain.1.0 long (subst (LabelsFrom h.width 1) (sym is) c.requires.words.1.1) c.requires.chain.1.1.0 c.requires.chain.1.1.1 (subst (λ (i : ℕ). Estimated S h i labels cells marks c.estimate.result) (add-one k) c.estimate.ensures) in
+    let answer = estimated_answer h law (suc k) labels cells marks c.estimate.result c.requires.chain.1.0 long (subst (LabelsFrom h.width 1) (sym is) c.requires.words.1.1) c.requires.chain.1.1.0 c.requires.chain.1.1.1 (subst (λ (i : ℕ). Estimated h i labels cells marks c.estimate.result) (add-one k) (c.estimate.ensures.sound s)) in
     subst (λ (ls : List ℕ). MatchResult c.estimate.result (Estimates h (suc k) ls cells marks) (λ _. ⊥)) is answer

@@ -20,5 +20,5 @@ returns g c =
     let long = length-take-le c.stages.result (replicate 5 0) few ∙ c.stages.ensures in
     let is : labels ≡ labels_at (words_in c.args.columns h.stages c.args.words.now) c.args.j = c.gather.ensures ∙ ap (λ (k : ℕ). labels_at (words_in c.args.columns k c.args.words.now) c.args.j) long in
     let bytes : AllByRecursion (λ x. x < 256) cells = All-from_get_or (λ x. x < 256) cells 0 (λ i l. search rules) in
-    let answer = worded_answer h law (g.H.Chain.sound chain) labels cells c.word_of.new.cells c.word_of.result s (subst (Row h) (sym is) c.requires.1.1.1.1) c.requires.1.1.1.0 bytes c.word_of.ensures in
+    let answer = worded_answer h law labels cells c.word_of.new.cells c.word_of.result (subst (Row h) (sym is) c.requires.1.1.1.1) c.requires.1.1.1.0 bytes (c.word_of.ensures.sound s) in
     rw answer.0 (answer.1 ∙ ap h.word is)

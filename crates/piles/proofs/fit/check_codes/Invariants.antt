@@ -1,7 +1,8 @@
-use Rattle.std.proofs.Common.{take}
-use Rattle.std.specs.List.{AllByRecursion}
+use Rattle.std.proofs.Common.{◌≡◌, drop}
+use Rattle.piles.specs.Sound.{first_refusal}
 use Rattle.piles.proofs.fit.check_codes.Given as goal
 
--- all so far are sound
+-- the codes that are left have the refusal of all
 abbrev pub invariant-loop-code : goal.invariant-loop-code
-invariant-loop-code g l = AllByRecursion g.A.Code.sound (take l.code-index l.codes)
+invariant-loop-code g l =
+    first_refusal g.A.Code.refusal l.codes ≡ first_refusal g.A.Code.refusal (drop l.code-index l.codes)

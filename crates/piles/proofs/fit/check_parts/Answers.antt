@@ -1,10 +1,7 @@
-use Rattle.std.proofs.Common.{inl, inr}
-use Rattle.words.proofs.Rises.{raised}
-use Rattle.piles.proofs.Unsound.{none_unsound}
+use Rattle.words.proofs.Rises.{checked_ok}
+use Rattle.piles.specs.FromRefusal.{each_sound}
 use Rattle.piles.proofs.fit.check_parts.Goals as goal
 
-pub returns-in_err-check_codes : goal.returns-in_err-check_codes
-returns-in_err-check_codes g c =
-    let unsound = c.in_err-check_codes.ensures in
-    rw (raised c.from_residual-in_err-check_codes.result c.from_residual-in_err-check_codes.ensures.1)
-    (λ s. none_unsound g.A.Code.sound g.A.Code.refuses c.args.codes.now c.in_err-check_codes.field-0.0 unsound s.1, inr (inl (c.in_ok-check.ensures, unsound)))
+pub check_fit-requires : goal.check_fit-requires
+check_fit-requires g c =
+    (checked_ok _ c.in_ok-check.ensures.refused, each_sound g.A.Code.refusal c.args.codes.now (checked_ok _ c.in_ok-check_codes.ensures))

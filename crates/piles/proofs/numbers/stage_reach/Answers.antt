@@ -12,6 +12,6 @@ overflow_mul-result g c =
     let code = c.args.code.now in
     let m = g.A.Code.model code in
     let code-law = g.met.A.Code.lawful code c.requires.1.0 in
-    let inner = stage_number (g.H.Chain.sound chain) h h.distance c.args.stage c.in_ok-inner.inner c.requires.0 c.requires.1.1 c.in_ok-inner.ensures in
+    let inner = stage_number h h.distance c.args.stage c.in_ok-inner.inner c.requires.1.1 (c.in_ok-inner.ensures.sound c.requires.0) in
     let small = mul-le-mul {n₁ = c.in_ok-inner.inner} {m₁ = c.distance-2.result} {n₂ = 16} {m₂ = 4096} (omega (arith, inner, within h law c.args.stage c.requires.1.1, law.few_cells)) (omega (arith, c.distance-2.ensures c.requires.1.0, distance_within m code-law, code-law.short)) in
     record { fits = omega (arith, small) }

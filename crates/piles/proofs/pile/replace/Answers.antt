@@ -1,5 +1,6 @@
 use Rattle.std.proofs.Common.{◌≡◌, ℕ, ◌*◌, List, map, length, replicate, Ok, Err, sym, ap, ◌∙◌, subst, arith}
 use Rattle.std.proofs.lemmas.List.{length-replicate, length-take-le}
+use Rattle.words.specs.Soundness.{Sound}
 use Rattle.words.specs.declared.fault.Fault.{Fault}
 use Rattle.words.proofs.Rises.{raised}
 use Rattle.codes.specs.Model.{CodeModel}
@@ -37,7 +38,7 @@ returns-in_err-harm g c =
     let chain = c.args.chain.now in
     let h = g.H.Chain.model chain in
     let cs : List CodeModel = map model codes in
-    let laws = each_lawful model g.A.Code.sound codes g.met.A.Code.lawful c.requires.parts.1 in
+    let laws = each_lawful model (Sound g.A.Code.refusal) codes g.met.A.Code.lawful c.requires.parts.1 in
     let word = c.args.word.now in
     let marks = c.args.marks.now in
     let none = c.requires.word.0 in
@@ -53,7 +54,7 @@ returns g c =
     let chain = c.args.chain.now in
     let h = g.H.Chain.model chain in
     let cs : List CodeModel = map model codes in
-    let laws = each_lawful model g.A.Code.sound codes g.met.A.Code.lawful c.requires.parts.1 in
+    let laws = each_lawful model (Sound g.A.Code.refusal) codes g.met.A.Code.lawful c.requires.parts.1 in
     let word = c.args.word.now in
     let marks = c.args.marks.now in
     let none = c.requires.word.0 in

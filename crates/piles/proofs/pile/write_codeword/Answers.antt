@@ -1,5 +1,6 @@
 use Rattle.std.proofs.Common.{◌≡◌, ℕ, ◌*◌, List, map, sym, ap, ◌∙◌, subst, arith}
 use Rattle.std.proofs.lemmas.List.{length-replicate}
+use Rattle.words.specs.Soundness.{Sound}
 use Rattle.chains.specs.Model.{Row}
 use Rattle.codes.specs.Model.{CodeModel}
 use Rattle.pile_laws.specs.Build.{columns, labels_at, laid, stage_words}
@@ -35,7 +36,7 @@ lay_columns-requires g c =
     let h = g.H.Chain.model chain in
     let cs : List CodeModel = map model codes in
     let law = g.met.H.Chain.lawful chain c.requires.parts.0 in
-    let laws = each_lawful model g.A.Code.sound codes g.met.A.Code.lawful c.requires.parts.1 in
+    let laws = each_lawful model (Sound g.A.Code.refusal) codes g.met.A.Code.lawful c.requires.parts.1 in
     let many = codes_many model codes h c.requires.parts.2 in
     let n = c.count_columns-columns.result in
     let value = c.count_columns-columns.ensures.value in

@@ -2,6 +2,7 @@ use Rattle.std.proofs.Common.{◌≡◌, ℕ, ◌+◌, ◌-◌, ◌*◌, map, le
 use borrow.Rule.Slice.PartMut.{put_mid}
 use Rattle.std.proofs.ByRecursion.{All-get_or}
 use Rattle.std.proofs.lemmas.List.{length-drop, length-take-le}
+use Rattle.words.specs.Soundness.{Sound}
 use Rattle.pile_laws.specs.Build.{total_bits}
 use Rattle.pile_laws.specs.Flat.{words_in}
 use Rattle.pile_laws.proofs.Recovery.{MessagesOf, encoded_here, recovered_more}
@@ -21,7 +22,7 @@ recover_stage-requires g c =
     let words = c.args.words.now in
     let is = c.index-codes-k.is in
     let lk = c.loop-k-test.true in
-    let sound = subst g.A.Code.sound (sym is) (All-get_or g.A.Code.sound codes k a lk c.requires.codes.0) in
+    let sound = subst (Sound g.A.Code.refusal) (sym is) (All-get_or (Sound g.A.Code.refusal) codes k a lk c.requires.codes.0) in
     let width : n ≡ n * k + n - n * k = omega arith in
     let of = encoded_here model codes n k a is lk words (c.requires.words.1 k lk) in
     let more = ap total_bits (models_more model codes k a is lk) in

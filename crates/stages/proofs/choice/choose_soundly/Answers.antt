@@ -6,8 +6,8 @@ use Rattle.stage_laws.specs.Promises.{length_refusal, first_large}
 use Rattle.stage_laws.proofs.Columns.{fitting}
 use Rattle.stages.proofs.choice.choose_soundly.Goals as goal
 
-pub search-found-requires-clause-fits : goal.search-found-requires-clause-fits
-search-found-requires-clause-fits g c =
+pub search-requires-clause-fits : goal.search-requires-clause-fits
+search-requires-clause-fits g c =
     let m = g.C.Code.model c.args.code.now in
     let lawful = g.met.C.Code.lawful c.args.code.now c.requires in
     let es = c.args.columns.estimates.now in

@@ -30,8 +30,8 @@ invariant_of-reading-else-stage-eq1 c =
     let rows = binary_rows _ _ _ fits.cells_fit fits.marks_fit in
     record { paired = rows.0; cells_small = rows.1; marks_small = rows.2 }
 
-pub returns-else-stage-eq1 : goal.returns-else-stage-eq1
-returns-else-stage-eq1 c =
+pub returns-else-stage-eq1-clause-sound : goal.returns-else-stage-eq1-clause-sound
+returns-else-stage-eq1-clause-sound c =
     let n = c.args.self.now.n in
     let cells = c.args.cells.now in
     let marks = c.args.marks.now in
@@ -40,4 +40,4 @@ returns-else-stage-eq1 c =
     let two : 2 ≡ c.args.stage = omega (arith, fits.low, fits.high) in
     let one = one_label n c.args.labels.now (omega (arith, fits.many)) fits.each in
     let near = subst₂ (λ (i : ℕ) (labels : List ℕ). Estimates (even_chain n) i labels cells marks c.estimate_second.result) two (sym one.1) c.estimate_second.ensures in
-    (λ _. answers _ (Estimates (even_chain n) c.args.stage c.args.labels.now cells marks) _ none near, λ no. absurd (no tt))
+    λ _. (answers _ (Estimates (even_chain n) c.args.stage c.args.labels.now cells marks) _ none near)

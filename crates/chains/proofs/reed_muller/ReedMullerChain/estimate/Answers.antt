@@ -9,15 +9,15 @@ use Rattle.chains.specs.Fits.{reading_fits}
 use Rattle.chains.specs.MullerColumns.{muller_sizes}
 use Rattle.chains.proofs.reed_muller.ReedMullerChain.estimate.Goals as goal
 
-pub returns-in_err-check_reading : goal.returns-in_err-check_reading
-returns-in_err-check_reading c =
+pub returns-in_err-check_reading-clause-sound : goal.returns-in_err-check_reading-clause-sound
+returns-in_err-check_reading-clause-sound c =
     let r = c.args.self.now.r in
     let labels = c.args.labels.now in
     let cells = c.args.cells.now in
     let marks = c.args.marks.now in
     let stages = (muller_sizes r c.args.self.now.range).stages in
     let due = sym (same_reading c.args.stage labels cells marks c.frame.ensures.breadth c.frame.ensures.widths stages) ∙ checked_err _ c.in_err-check_reading.ensures in
-    (λ _. refuses _ (Estimates (muller_chain r) c.args.stage labels cells marks) c.from_residual.result due (raised _ c.from_residual.ensures.1), λ no. absurd (no tt))
+    λ _. (refuses _ (Estimates (muller_chain r) c.args.stage labels cells marks) c.from_residual.result due (raised _ c.from_residual.ensures.1))
 
 pub invariant_of-nearest : goal.invariant_of-nearest
 invariant_of-nearest c =
@@ -35,12 +35,12 @@ nearest-requires c =
     reading_fits (2 ^ r) (r + 1) (at_stage (muller_widths r)) c.args.stage c.args.labels.now c.args.cells.now c.args.marks.now
     (reading_passed c.args.stage c.args.labels.now c.args.cells.now c.args.marks.now c.frame.ensures.breadth c.frame.ensures.widths stages c.in_ok-check_reading.ensures)
 
-pub returns : goal.returns
-returns c =
+pub returns-clause-sound : goal.returns-clause-sound
+returns-clause-sound c =
     let r = c.args.self.now.r in
     let labels = c.args.labels.now in
     let cells = c.args.cells.now in
     let marks = c.args.marks.now in
     let stages = (muller_sizes r c.args.self.now.range).stages in
     let none = reading_passed c.args.stage labels cells marks c.frame.ensures.breadth c.frame.ensures.widths stages c.in_ok-check_reading.ensures in
-    (λ _. answers _ (Estimates (muller_chain r) c.args.stage labels cells marks) _ none c.nearest.ensures, λ no. absurd (no tt))
+    λ _. (answers _ (Estimates (muller_chain r) c.args.stage labels cells marks) _ none c.nearest.ensures)

@@ -13,14 +13,14 @@ use Rattle.chains.specs.MullerWords.{word_is}
 use Rattle.chains.specs.Spelling.{bits_none}
 use Rattle.chains.proofs.reed_muller.ReedMullerChain.word_of.Goals as goal
 
-pub returns-in_err-check_row : goal.returns-in_err-check_row
-returns-in_err-check_row c =
+pub returns-in_err-check_row-clause-sound : goal.returns-in_err-check_row-clause-sound
+returns-in_err-check_row-clause-sound c =
     let r = c.args.self.now.r in
     let labels = c.args.labels.now in
     let cells = c.args.cells.now in
     let stages = (muller_sizes r c.args.self.now.range).stages in
     let due = sym (same_row labels cells c.frame.ensures.breadth c.frame.ensures.widths stages) ∙ checked_err _ c.in_err-check_row.ensures in
-    (λ _. (raised _ c.from_residual.ensures.1 ∙ ap checked (sym due), ap (λ z. kept_or z cells (muller_word r labels)) (sym due)), λ no. absurd (no tt))
+    λ _. ((raised _ c.from_residual.ensures.1 ∙ ap checked (sym due), ap (λ z. kept_or z cells (muller_word r labels)) (sym due)))
 
 pub join-row-requires : goal.join-row-requires
 join-row-requires c =
@@ -29,8 +29,8 @@ join-row-requires c =
     let fits = row_fits (2 ^ r) (r + 1) (at_stage (muller_widths r)) c.args.labels.now c.args.cells.now (row_passed c.args.labels.now c.args.cells.now c.frame.ensures.breadth c.frame.ensures.widths stages c.in_ok-check_row.ensures) in
     (omega (arith, fits.many), fits.each)
 
-pub returns : goal.returns
-returns c =
+pub returns-clause-sound : goal.returns-clause-sound
+returns-clause-sound c =
     let r = c.args.self.now.r in
     let labels = c.args.labels.now in
     let cells = c.args.cells.now in
@@ -43,4 +43,4 @@ returns c =
     ∙ c.take_off.ensures.is
     ∙ ap₂ (laid (columns r)) c.join-row.ensures.bits (bits_none (2 ^ r))
     ∙ sym (word_is r c.args.self.now.range labels) in
-    (λ _. (ap checked (sym due), word ∙ ap (λ z. kept_or z cells (muller_word r labels)) (sym due)), λ no. absurd (no tt))
+    λ _. ((ap checked (sym due), word ∙ ap (λ z. kept_or z cells (muller_word r labels)) (sym due)))

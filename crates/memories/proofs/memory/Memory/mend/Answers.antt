@@ -1,6 +1,7 @@
 use Rattle.std.proofs.Common.{◌≡◌, ℕ, cond, ltb, Some, None, Ok, subst}
 use Rattle.words.specs.declared.fault.Kind.TheVariants.{PageOutOfRange}
 use Rattle.words.specs.declared.fault.Layer.TheVariants.{Medium}
+use Rattle.words.specs.Soundness.{Sound}
 use Rattle.words.specs.Faults.{fault}
 use Rattle.words.proofs.Rises.{checked_ok}
 use Rattle.memory_laws.specs.Calls.{Patrolled}
@@ -22,7 +23,7 @@ restore-requires-clause-word g c =
     clear_word (g.C.Code.model code) (g.met.C.Code.lawful code c.requires.code) c.len-cells.result (c.len-cells.ensures c.requires.code)
 
 -- the medium takes the codeword
-put_back : (g : given.Over) (c : After-put g) → g.M.Medium.sound c.put.new.self × ((c.put.result ≡ Ok tt) × Patrolled (g.M.Medium.model c.args.self.now.medium.now) (g.M.Medium.model c.put.new.self) (g.C.Code.model c.args.self.now.code) c.args.page (Ok c.in_ok-harm.harm))
+put_back : (g : given.Over) (c : After-put g) → Sound g.M.Medium.refusal c.put.new.self × ((c.put.result ≡ Ok tt) × Patrolled (g.M.Medium.model c.args.self.now.medium.now) (g.M.Medium.model c.put.new.self) (g.C.Code.model c.args.self.now.code) c.args.page (Ok c.in_ok-harm.harm))
 put_back g c =
     let self = c.args.self.now in
     let mm = g.M.Medium.model self.medium.now in
@@ -33,7 +34,7 @@ put_back g c =
     let page = c.args.page in
     let passed = subst (λ (n : ℕ). cond (ltb page n) None (Some (fault PageOutOfRange Medium page)) ≡ None) (c.pages.ensures c.requires.medium) (checked_ok _ c.in_ok-check_page.ensures) in
     let got = c.in_ok-harm.ensures.done in
-    let told = c.put.ensures.called.sound got.0 in
+    let told = c.put.ensures.sound got.0 in
     (told.0, patrol_put mm mid cm page got.1.0 c.restore.new.message c.restore.new.word end c.in_ok-harm.harm c.put.result lc c.requires.joins (page_there mm page passed) passed got.1.1 told.1)
 
 pub returns-in_err-put : goal.returns-in_err-put

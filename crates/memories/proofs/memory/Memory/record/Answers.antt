@@ -1,6 +1,7 @@
 use Rattle.std.proofs.Common.{◌≡◌, ℕ, eqb, List, length, take, replicate, None, Ok, count_by, Result, ap, ◌∙◌, subst}
 use Rattle.std.proofs.lemmas.List.{length-replicate}
 use Rattle.words.specs.declared.fault.Fault.{Fault}
+use Rattle.words.specs.Soundness.{Sound}
 use Rattle.words.proofs.Rises.{checked_ok}
 use Rattle.codes.specs.Model.{CodeModel}
 use Rattle.codes.specs.Promises.{Encoded}
@@ -40,13 +41,13 @@ returns-in_err-encode g c =
 abbrev Taken : MediumModel → MediumModel → CodeModel → ℕ → List ℕ → Result (Unit {0}) Fault → Type 0
 Taken m m' c p payload r = (r ≡ Ok tt) × Changed m m' p (stored (m.page p) (recording c payload))
 
-put_to_page : (g : given.Over) (c : After-put g) → Recorded (g.M.Medium.model c.args.self.now.medium.now) (g.C.Code.model c.args.self.now.code) c.args.page c.args.payload.now c.encode.new.word c.encode.result → g.M.Medium.sound c.put.new.self × Taken (g.M.Medium.model c.args.self.now.medium.now) (g.M.Medium.model c.put.new.self) (g.C.Code.model c.args.self.now.code) c.args.page c.args.payload.now c.put.result
+put_to_page : (g : given.Over) (c : After-put g) → Recorded (g.M.Medium.model c.args.self.now.medium.now) (g.C.Code.model c.args.self.now.code) c.args.page c.args.payload.now c.encode.new.word c.encode.result → Sound g.M.Medium.refusal c.put.new.self × Taken (g.M.Medium.model c.args.self.now.medium.now) (g.M.Medium.model c.put.new.self) (g.C.Code.model c.args.self.now.code) c.args.page c.args.payload.now c.put.result
 put_to_page g c is =
     let mm = g.M.Medium.model c.args.self.now.medium.now in
     let mid = g.M.Medium.model c.put.new.self in
     let cm = g.C.Code.model c.args.self.now.code in
     let lc = g.met.C.Code.lawful c.args.self.now.code c.requires.code in
-    let told = c.put.ensures.called.sound c.requires.medium in
+    let told = c.put.ensures.sound c.requires.medium in
     (told.0, puts mm mid mid cm lc c.requires.joins c.args.page c.args.payload.now is.2 c.encode.new.word c.put.result is.1 told.1)
 
 pub returns-in_err-put : goal.returns-in_err-put
@@ -55,14 +56,14 @@ returns-in_err-put g c =
     absurd (ok_not_err c.put.result tt c.in_err-put.field-0.0 (put_to_page g at.After-put (encoded g at.After-encode)).1.0 c.in_err-put.was)
 
 -- what the medium then shows
-seen : (g : given.Over) (c : After-fetch g) → Recorded (g.M.Medium.model c.args.self.now.medium.now) (g.C.Code.model c.args.self.now.code) c.args.page c.args.payload.now c.encode.new.word c.encode.result → g.M.Medium.sound c.put.new.self × Taken (g.M.Medium.model c.args.self.now.medium.now) (g.M.Medium.model c.put.new.self) (g.C.Code.model c.args.self.now.code) c.args.page c.args.payload.now c.put.result → g.M.Medium.sound c.fetch.new.self × Taken (g.M.Medium.model c.args.self.now.medium.now) (g.M.Medium.model c.fetch.new.self) (g.C.Code.model c.args.self.now.code) c.args.page c.args.payload.now c.fetch.result × (count_by (λ x. eqb x 1) c.fetch.new.marks ≡ blanks ((g.M.Medium.model c.fetch.new.self).page c.args.page))
+seen : (g : given.Over) (c : After-fetch g) → Recorded (g.M.Medium.model c.args.self.now.medium.now) (g.C.Code.model c.args.self.now.code) c.args.page c.args.payload.now c.encode.new.word c.encode.result → Sound g.M.Medium.refusal c.put.new.self × Taken (g.M.Medium.model c.args.self.now.medium.now) (g.M.Medium.model c.put.new.self) (g.C.Code.model c.args.self.now.code) c.args.page c.args.payload.now c.put.result → Sound g.M.Medium.refusal c.fetch.new.self × Taken (g.M.Medium.model c.args.self.now.medium.now) (g.M.Medium.model c.fetch.new.self) (g.C.Code.model c.args.self.now.code) c.args.page c.args.payload.now c.fetch.result × (count_by (λ x. eqb x 1) c.fetch.new.marks ≡ blanks ((g.M.Medium.model c.fetch.new.self).page c.args.page))
 seen g c is put =
     let mm = g.M.Medium.model c.args.self.now.medium.now in
     let mid = g.M.Medium.model c.put.new.self in
     let end = g.M.Medium.model c.fetch.new.self in
     let cm = g.C.Code.model c.args.self.now.code in
     let lc = g.met.C.Code.lawful c.args.self.now.code c.requires.code in
-    let told = c.fetch.ensures.called.sound put.0 in
+    let told = c.fetch.ensures.sound put.0 in
     let zeros = clear_word cm lc c.len-cells.result (c.len-cells.ensures c.requires.code) in
     let got = fetches mm mid end cm lc c.requires.joins c.args.page c.args.payload.now is.2 c.encode.new.word (take c.len-cells.result (replicate 4096 0)) c.fetch.new.cells c.fetch.new.marks c.fetch.result is.1 zeros put.1.1 told.1 in
     (told.0, (got.0, got.1.0), got.1.1)

@@ -1,6 +1,7 @@
 use Rattle.std.proofs.Common.{◌≡◌, ℕ, ◌^◌, ◌<◌, length, take, replicate, Ok, Err, sym, ap, ◌∙◌, subst, inl}
 use Rattle.std.specs.List.{AllByRecursion}
 use Rattle.std.proofs.lemmas.List.{length-replicate}
+use Rattle.words.specs.Soundness.{Sound}
 use Rattle.words.specs.Faults.{on_page}
 use Rattle.words.proofs.Rises.{raised}
 use Rattle.codes.specs.Model.{Message}
@@ -13,14 +14,14 @@ use Rattle.memories.proofs.memory.Memory.restore.Goals as goal
 use Rattle.memories.proofs.memory.Memory.restore.Goals.{After-fetch, After-message_of}
 
 -- the page is fetched as it is
-fetched : (g : given.Over) (c : After-fetch g) → (g.M.Medium.sound c.fetch.new.self × Unchanged (g.M.Medium.model c.args.self.now.medium.now) (g.M.Medium.model c.fetch.new.self)) × ((c.fetch.result ≡ Ok tt) × (c.fetch.new.cells ≡ word_of (g.M.Medium.model c.args.self.now.medium.now) c.args.page) × (c.fetch.new.marks ≡ marks_of (g.M.Medium.model c.args.self.now.medium.now) c.args.page))
+fetched : (g : given.Over) (c : After-fetch g) → (Sound g.M.Medium.refusal c.fetch.new.self × Unchanged (g.M.Medium.model c.args.self.now.medium.now) (g.M.Medium.model c.fetch.new.self)) × ((c.fetch.result ≡ Ok tt) × (c.fetch.new.cells ≡ word_of (g.M.Medium.model c.args.self.now.medium.now) c.args.page) × (c.fetch.new.marks ≡ marks_of (g.M.Medium.model c.args.self.now.medium.now) c.args.page))
 fetched g c =
     let self = c.args.self.now in
     let mm = g.M.Medium.model self.medium.now in
     let cm = g.C.Code.model self.code in
     let lm = g.met.M.Medium.lawful self.medium.now c.requires.joined.medium in
     let lc = g.met.C.Code.lawful self.code c.requires.joined.code in
-    let told = c.fetch.ensures.called.sound c.requires.joined.medium in
+    let told = c.fetch.ensures.sound c.requires.joined.medium in
     let long = ap length c.requires.word ∙ length-replicate {A = ℕ} cm.len 0 in
     let got = fetches_page mm (g.M.Medium.model c.fetch.new.self) cm lm lc c.requires.joined.joins c.args.page c.requires.page c.args.word.now (take (length c.args.word.now) (replicate 4096 0)) c.fetch.new.cells c.fetch.new.marks c.fetch.result c.requires.word (clear_word cm lc (length c.args.word.now) long) told.1 in
     ((told.0, got.0), got.1)

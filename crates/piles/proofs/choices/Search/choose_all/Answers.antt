@@ -1,4 +1,5 @@
 use Rattle.std.proofs.Common.{◌≡◌, ℕ, suc, map, length, sym, ap, ◌∙◌, subst, arith}
+use Rattle.words.specs.Soundness.{Sound}
 use Rattle.words.specs.declared.fault.Kind.TheVariants.{NoCodeword}
 use Rattle.words.specs.declared.fault.Layer.TheVariants.{Code}
 use Rattle.words.specs.Faults.{fault}
@@ -23,7 +24,7 @@ pub loop-chosen-preserved : goal.loop-chosen-preserved
 loop-chosen-preserved g c =
     let model = g.A.Code.model in
     let codes = c.args.self.now.codes.now in
-    let laws = each_lawful model g.A.Code.sound codes g.met.A.Code.lawful c.requires.search.parts.1 in
+    let laws = each_lawful model (Sound g.A.Code.refusal) codes g.met.A.Code.lawful c.requires.search.parts.1 in
     let chosen = c.in_ok-choose_stage.ensures in
     choices_step (g.H.Chain.model c.args.self.now.chain.now) (map model codes) laws c.requires.search.parts.2 c.args.self.now.word.now c.args.self.now.marks.now c.args.self.now.columns c.requires.search.columns c.loop-chosen.chosen c.loop-chosen.words c.loop-chosen.invariant c.choose_stage.new.words chosen.0 chosen.1
 

@@ -1,6 +1,7 @@
 use Rattle.std.proofs.Common.{◌≡◌, ℕ, ◌*◌, ◌<◌, ◌≤◌, List, map, length, Ok, Err, Result, sym, refl, ap, ◌∙◌, subst, inr, arith}
 use Rattle.std.specs.List.{AllByRecursion}
 use Rattle.std.proofs.ByRecursion.{All-weaker}
+use Rattle.words.specs.Soundness.{Sound}
 use Rattle.words.specs.declared.fault.Fault.{Fault}
 use Rattle.words.specs.declared.fault.Layer.TheVariants.{Code}
 use Rattle.words.specs.Buffers.{answered, refusal}
@@ -33,7 +34,7 @@ lay_columns-requires g c =
     let h = g.H.Chain.model chain in
     let cs : List CodeModel = map model codes in
     let law = g.met.H.Chain.lawful chain c.requires.search.parts.0 in
-    let laws = each_lawful model g.A.Code.sound codes g.met.A.Code.lawful c.requires.search.parts.1 in
+    let laws = each_lawful model (Sound g.A.Code.refusal) codes g.met.A.Code.lawful c.requires.search.parts.1 in
     let many : length codes ≡ h.stages = codes_many model codes h c.requires.search.parts.2 in
     let row = c.choose_all.new.words in
     let n = c.args.self.now.columns in
@@ -59,7 +60,7 @@ measured g c =
     let h = g.H.Chain.model chain in
     let cs : List CodeModel = map model codes in
     let law = g.met.H.Chain.lawful chain c.requires.search.parts.0 in
-    let laws = each_lawful model g.A.Code.sound codes g.met.A.Code.lawful c.requires.search.parts.1 in
+    let laws = each_lawful model (Sound g.A.Code.refusal) codes g.met.A.Code.lawful c.requires.search.parts.1 in
     let many : length codes ≡ h.stages = codes_many model codes h c.requires.search.parts.2 in
     let row = c.choose_all.new.words in
     let n = c.args.self.now.columns in

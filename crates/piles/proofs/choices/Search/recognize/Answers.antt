@@ -1,4 +1,5 @@
 use Rattle.std.proofs.Common.{◌≡◌, ℕ, ◌*◌, ◌<◌, ◌≤◌, List, map, length, Ok, Err, Result, sym, ap, ◌∙◌, arith, MatchResult}
+use Rattle.words.specs.Soundness.{Sound}
 use Rattle.words.specs.declared.fault.Fault.{Fault}
 use Rattle.words.specs.declared.fault.Kind.TheVariants.{NoCodeword}
 use Rattle.words.specs.declared.fault.Layer.TheVariants.{Code}
@@ -18,7 +19,7 @@ returns-in-Ok g c =
     let h = g.H.Chain.model chain in
     let cs : List CodeModel = map model codes in
     let law = g.met.H.Chain.lawful chain c.requires.search.parts.0 in
-    let laws = each_lawful model g.A.Code.sound codes g.met.A.Code.lawful c.requires.search.parts.1 in
+    let laws = each_lawful model (Sound g.A.Code.refusal) codes g.met.A.Code.lawful c.requires.search.parts.1 in
     let n = c.args.self.now.columns in
     let word = c.args.self.now.word.now in
     let marks = c.args.self.now.marks.now in
@@ -44,7 +45,7 @@ returns-in-Err g c =
     let h = g.H.Chain.model chain in
     let cs : List CodeModel = map model codes in
     let law = g.met.H.Chain.lawful chain c.requires.search.parts.0 in
-    let laws = each_lawful model g.A.Code.sound codes g.met.A.Code.lawful c.requires.search.parts.1 in
+    let laws = each_lawful model (Sound g.A.Code.refusal) codes g.met.A.Code.lawful c.requires.search.parts.1 in
     let word = c.args.self.now.word.now in
     let lw : length word ≡ h.breadth * columns cs = c.requires.search.reads.0.0 ∙ ap (λ (m : ℕ). h.breadth * m) c.requires.search.columns in
     let refused = c.in-Err.ensures in

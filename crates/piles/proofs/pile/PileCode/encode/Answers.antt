@@ -1,8 +1,8 @@
-use Rattle.std.proofs.Common.{List, map, sym, subst}
+use Rattle.std.proofs.Common.{List, map, refl, sym, subst}
 use Rattle.codes.specs.Model.{CodeModel}
 use Rattle.codes.proofs.Working.{encode_passes, message_fits}
 use Rattle.pile_laws.specs.Pile.{pile}
-use Rattle.piles.specs.Sound.{SoundPile}
+use Rattle.piles.specs.Sound.{SoundParts}
 use Rattle.piles.proofs.pile.PileCode.encode.Goals as goal
 
 pub write_codeword-requires : goal.write_codeword-requires
@@ -17,7 +17,7 @@ write_codeword-requires g c =
     let none = encode_passes (pile h cs) c.parameters.ensures message word c.in_ok-check_encode.ensures in
     let fit = message_fits (pile h cs) message word none in
     record {
-      parts = subst (SoundPile (g.H.Chain.sound self.chain) h model g.A.Code.sound) (sym c.codes-codes.ensures) c.in_ok-check.ensures.sound;
+      parts = subst (SoundParts g.H.Chain g.A.Code self.chain) (sym c.codes-codes.ensures) (c.in_ok-check.ensures.sound.0 refl);
       message = fit.0;
       word = fit.1;
     }
