@@ -1,5 +1,6 @@
 -- What the calls of a field answer, refusals included. Assumes nothing.
-use Rattle.std.specs.Prelude.{◌≡◌, ℕ, cond, Ok, Err, Option, Result, nat_lt}
+use Rattle.std.specs.Prelude.{◌≡◌, ℕ, cond, Some, None, Ok, Err, Option, Result, nat_lt}
+use Rattle.std.proofs.lemmas.Option.{none-some}
 use Rattle.words.specs.declared.fault.Fault.{Fault}
 use Rattle.words.specs.declared.fault.Kind.TheVariants.{TooLarge, UnlawfulField}
 use Rattle.words.specs.declared.fault.Layer.TheVariants.{Field}
@@ -13,6 +14,10 @@ too_large place = fault TooLarge Field place
 -- no lawful field
 abbrev pub unlawful : Fault
 unlawful = fault UnlawfulField Field 0
+
+-- what is refused by no fault is refused by just that one
+pub never_refused : (e : Fault) → None ≡ Some e → e ≡ unlawful
+never_refused e due = absurd (none-some e due)
 
 -- Ok exactly where the fact holds, else 13
 abbrev pub Checks : Type 0 → Result (Unit {0}) Fault → Type 0

@@ -1,5 +1,7 @@
 -- Which extensions are refused, and what the numbers of one mean that is not, where q is the size of the field below. Assumes nothing.
-use Rattle.std.specs.Prelude.{◌≡◌, ℕ, ◌+◌, ◌*◌, ◌<◌, cond, Some, None, Ok, Option, Result}
+use Rattle.std.specs.Prelude.{◌≡◌, ℕ, ◌+◌, ◌*◌, ◌<◌, Bool, true, false, cond, Some, None, Ok, Option, Result}
+use Rattle.std.proofs.Common.{sym}
+use Rattle.std.proofs.lemmas.Option.{none-some, same_Some}
 use Rattle.words.specs.declared.fault.Fault.{Fault}
 use Rattle.words.specs.Buffers.{either}
 use Rattle.words.proofs.Passes.{none_left, none_right, passed}
@@ -25,6 +27,16 @@ pub extension_lawful : (below : Option Fault) (f : FieldModel) → (below ≡ No
     SoundExtension below f c → FieldLaws (extension f c)
 extension_lawful below f lawful c s =
     extension_laws f (lawful (none_left below _ s)) c (extends_of f c (passed (extends f c) unlawful (none_right below (extension_refusal f c) s)))
+
+-- whatever the field below, an extension is refused by 13
+refused_so : (t : Bool) (x e : Fault) → cond t None (Some x) ≡ Some e → e ≡ x
+refused_so true x e due = absurd (none-some e due)
+refused_so false x e due = sym (same_Some x e due)
+
+pub fault_above : (below : Option Fault) (f : FieldModel) (c : ℕ) → ((e : Fault) → below ≡ Some e → e ≡ unlawful) →
+    (e : Fault) → refusal_above below f c ≡ Some e → e ≡ unlawful
+fault_above (Some x) f c one e due = one e due
+fault_above None f c one e due = refused_so (extends f c) unlawful e due
 
 -- numbers below q are the elements below
 abbrev pub SumsBelow : FieldModel → (a b : ℕ) → Result ℕ Fault → Type 0

@@ -9,6 +9,8 @@ impl<F: Field> Field for &F {
 
     ghost lawful = { λ f s. F.Field.lawful f.now s };
 
+    ghost one_fault = { λ f e due. F.Field.one_fault f.now e due };
+
     fn check(&self) -> Result<(), Fault> {
         (**self).check()
     }

@@ -3,7 +3,7 @@ ghost use Rattle.std.specs.Prelude.{◌≡◌};
 ghost use Rattle.words.specs.Soundness.{Sound};
 ghost use Rattle.field_laws.specs.Extensions.{Extends, extension};
 ghost use Rattle.fields.specs.Answers.{Makes, Multiplies, Sums};
-ghost use Rattle.fields.specs.Extending.{refusal_above, SoundExtension, extension_lawful, MultipliesBelow, MultipliesRoot, SquaresRoot, SumsBelow, SumsParts};
+ghost use Rattle.fields.specs.Extending.{fault_above, refusal_above, SoundExtension, extension_lawful, MultipliesBelow, MultipliesRoot, SquaresRoot, SumsBelow, SumsParts};
 
 use crate::below::Below;
 use crate::field::Field;
@@ -56,6 +56,8 @@ impl<F: Field> Field for Extension<F> {
     ghost refusal = { λ x. refusal_above (F.Field.refusal x.base) (F.Field.model x.base) x.c };
 
     ghost lawful = { λ x s. extension_lawful (F.Field.refusal x.base) (F.Field.model x.base) (F.Field.lawful x.base) x.c s };
+
+    ghost one_fault = { λ x e due. fault_above (F.Field.refusal x.base) (F.Field.model x.base) x.c (F.Field.one_fault x.base) e due };
 
     fn check(&self) -> Result<(), Fault> {
         self.base.check()?;

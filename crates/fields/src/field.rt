@@ -1,5 +1,5 @@
 // What every field offers, and what its answers mean.
-ghost use Rattle.std.specs.Prelude.{◌≡◌, IfErr, Option};
+ghost use Rattle.std.specs.Prelude.{◌≡◌, IfErr, Option, Some};
 ghost use Rattle.words.specs.declared.fault.Fault.{Fault};
 ghost use Rattle.words.specs.Buffers.{checked};
 ghost use Rattle.words.specs.Soundness.{Sound};
@@ -41,4 +41,7 @@ pub trait Field {
         ensures { Inverts (Sound refusal self.now) (model self.now) a result };
 
     ghost lawful: { (f : Self) → Sound refusal f → FieldLaws (model f) };
+
+    // whatever the field, it is refused by 13
+    ghost one_fault: { (f : Self) (e : Fault) → refusal f ≡ Some e → e ≡ unlawful };
 }

@@ -1,7 +1,7 @@
 // The polynomial fields.
 ghost use Rattle.std.specs.Prelude.{◌≡◌, ℕ, ◌+◌, ◌*◌, ◌^◌, ◌<◌, ◌≤◌, IfOk, None, slice_index};
 ghost use Rattle.field_laws.specs.Polynomials.{polynomial, modulus, times, Reduced};
-ghost use Rattle.fields.specs.Answers.{Makes, of_two};
+ghost use Rattle.fields.specs.Answers.{Makes, never_refused, of_two};
 ghost use Rattle.field_laws.proofs.PolynomialLaws.{polynomial_laws};
 ghost use Rattle.field_laws.proofs.Tables.{logs, antilogs};
 
@@ -93,6 +93,8 @@ impl Field for Polynomial {
     ghost refusal = { λ _. None };
 
     ghost lawful = { λ f _. polynomial_laws f.width f.range.0 f.range.1 };
+
+    ghost one_fault = { λ _ e due. never_refused e due };
 
     fn check(&self) -> Result<(), Fault> {
         Ok(())

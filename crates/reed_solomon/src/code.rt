@@ -1,7 +1,8 @@
 // The Reed-Solomon code of a field, a length and a message length.
-ghost use Rattle.std.specs.Prelude.{◌≡◌, IfErr, None, OnOk, take};
+ghost use Rattle.std.specs.Prelude.{◌≡◌, Err, IfErr, None, OnOk, take};
 ghost use Rattle.words.specs.Buffers.{checked};
 ghost use Rattle.words.specs.Soundness.{Refused, Sound};
+ghost use Rattle.fields.specs.Answers.{unlawful};
 ghost use Rattle.codes.specs.Parameters.{parameters_of};
 ghost use Rattle.codes.specs.Promises.{Corrected, Encoded, Recovered};
 ghost use Rattle.reed_solomon_laws.specs.Words.{Codeword, refusal_over, reed_solomon};
@@ -70,7 +71,13 @@ impl<F: Field> Code for ReedSolomon<F> {
 
     ghost lawful = { λ c s. code_lawful (F.Field.model c.field) c.len c.message_len (F.Field.refusal c.field) (F.Field.lawful c.field) s };
 
-    fn check(&self) -> Result<(), Fault> {
+    /// Ok if the field is sound and the lengths are those of the kind. A field that is not sound refuses with 13.
+    fn check(&self) -> Result<(), Fault>
+        ensures refused { result ≡ checked (refusal_over (F.refusal self.now.field) (F.model self.now.field)
+            self.now.len self.now.message_len) }
+        ensures order { IfErr result (Refuses (Sound F.refusal self.now.field) (F.model self.now.field)
+            self.now.len self.now.message_len) }
+    {
         check_kind(&self.field, self.len, self.message_len)
     }
 
@@ -103,6 +110,7 @@ impl<F: Field> Code for ReedSolomon<F> {
             message.now word.old word.new result }
         ensures refused { Refused (refusal_over (F.refusal self.now.field) (F.model self.now.field)
             self.now.len self.now.message_len) result (word.new ≡ word.old) }
+        ensures unlawful { (Sound F.refusal self.now.field → ⊥) → result ≡ Err unlawful }
         ensures values { OnOk result (Codeword (F.model self.now.field)
             self.now.len self.now.message_len word.new) }
         ensures begins { OnOk result (take self.now.message_len word.new ≡ message.now) }
@@ -121,6 +129,7 @@ impl<F: Field> Code for ReedSolomon<F> {
             word.now message.old message.new result }
         ensures refused { Refused (refusal_over (F.refusal self.now.field) (F.model self.now.field)
             self.now.len self.now.message_len) result (message.new ≡ message.old) }
+        ensures unlawful { (Sound F.refusal self.now.field → ⊥) → result ≡ Err unlawful }
         ensures values { OnOk result (Codeword (F.model self.now.field)
             self.now.len self.now.message_len word.now) }
         ensures begins { OnOk result (take self.now.message_len word.now ≡ message.new) }
@@ -140,6 +149,7 @@ impl<F: Field> Code for ReedSolomon<F> {
             word.old marks.now word.new result }
         ensures refused { Refused (refusal_over (F.refusal self.now.field) (F.model self.now.field)
             self.now.len self.now.message_len) result (word.new ≡ word.old) }
+        ensures unlawful { (Sound F.refusal self.now.field → ⊥) → result ≡ Err unlawful }
         ensures values { OnOk result (Codeword (F.model self.now.field)
             self.now.len self.now.message_len word.new) }
     {

@@ -13,7 +13,7 @@ pub replace-requires : goal.replace-requires
 replace-requires g c =
     let self = c.args.self.now in
     let f : FieldModel = g.F.Field.model self.field in
-    let s = sound_of (g.F.Field.refusal self.field) f self.len self.message_len c.in_ok-check.ensures in
+    let s = sound_of (g.F.Field.refusal self.field) f self.len self.message_len c.in_ok-check.ensures.refused in
     let laws : FieldLaws f = g.met.F.Field.lawful self.field s.0 in
     let word = c.args.word.now in
     let marks = c.args.marks.now in
@@ -26,7 +26,7 @@ pub returns-clause-sound : goal.returns-clause-sound
 returns-clause-sound g c =
     let self = c.args.self.now in
     let f : FieldModel = g.F.Field.model self.field in
-    let s = sound_of (g.F.Field.refusal self.field) f self.len self.message_len c.in_ok-check.ensures in
+    let s = sound_of (g.F.Field.refusal self.field) f self.len self.message_len c.in_ok-check.ensures.refused in
     let laws : FieldLaws f = g.met.F.Field.lawful self.field s.0 in
     let word = c.args.word.now in
     let marks = c.args.marks.now in
@@ -39,7 +39,7 @@ pub returns-clause-values : goal.returns-clause-values
 returns-clause-values g c =
     let self = c.args.self.now in
     let f : FieldModel = g.F.Field.model self.field in
-    let s = sound_of (g.F.Field.refusal self.field) f self.len self.message_len c.in_ok-check.ensures in
+    let s = sound_of (g.F.Field.refusal self.field) f self.len self.message_len c.in_ok-check.ensures.refused in
     let word = c.args.word.now in
     let marks = c.args.marks.now in
     let model = reed_solomon f self.len self.message_len in

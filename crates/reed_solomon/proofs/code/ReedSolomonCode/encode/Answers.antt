@@ -11,7 +11,7 @@ pub write_codeword-requires : goal.write_codeword-requires
 write_codeword-requires g c =
     let self = c.args.self.now in
     let f : FieldModel = g.F.Field.model self.field in
-    let s = sound_of (g.F.Field.refusal self.field) f self.len self.message_len c.in_ok-check.ensures in
+    let s = sound_of (g.F.Field.refusal self.field) f self.len self.message_len c.in_ok-check.ensures.refused in
     let laws : FieldLaws f = g.met.F.Field.lawful self.field s.0 in
     let model = reed_solomon f self.len self.message_len in
     let none = encode_passes model c.parameters.ensures c.args.message.now c.args.word.now c.in_ok-check_encode.ensures in
@@ -22,7 +22,7 @@ pub returns-clause-values : goal.returns-clause-values
 returns-clause-values g c =
     let self = c.args.self.now in
     let f : FieldModel = g.F.Field.model self.field in
-    let s = sound_of (g.F.Field.refusal self.field) f self.len self.message_len c.in_ok-check.ensures in
+    let s = sound_of (g.F.Field.refusal self.field) f self.len self.message_len c.in_ok-check.ensures.refused in
     let laws : FieldLaws f = g.met.F.Field.lawful self.field s.0 in
     let n = self.len in
     let k = self.message_len in
@@ -37,7 +37,7 @@ pub returns-clause-begins : goal.returns-clause-begins
 returns-clause-begins g c =
     let self = c.args.self.now in
     let f : FieldModel = g.F.Field.model self.field in
-    let s = sound_of (g.F.Field.refusal self.field) f self.len self.message_len c.in_ok-check.ensures in
+    let s = sound_of (g.F.Field.refusal self.field) f self.len self.message_len c.in_ok-check.ensures.refused in
     let laws : FieldLaws f = g.met.F.Field.lawful self.field s.0 in
     let n = self.len in
     let k = self.message_len in

@@ -17,7 +17,7 @@ pub recognize-requires : goal.recognize-requires
 recognize-requires g c =
     let self = c.args.self.now in
     let f : FieldModel = g.F.Field.model self.field in
-    let s = sound_of (g.F.Field.refusal self.field) f self.len self.message_len c.in_ok-check.ensures in
+    let s = sound_of (g.F.Field.refusal self.field) f self.len self.message_len c.in_ok-check.ensures.refused in
     let laws : FieldLaws f = g.met.F.Field.lawful self.field s.0 in
     let k = self.message_len in
     let word = c.args.word.now in
@@ -31,7 +31,7 @@ pub returns-in_err-recognize-clause-sound : goal.returns-in_err-recognize-clause
 returns-in_err-recognize-clause-sound g c =
     let self = c.args.self.now in
     let f : FieldModel = g.F.Field.model self.field in
-    let s = sound_of (g.F.Field.refusal self.field) f self.len self.message_len c.in_ok-check.ensures in
+    let s = sound_of (g.F.Field.refusal self.field) f self.len self.message_len c.in_ok-check.ensures.refused in
     let laws : FieldLaws f = g.met.F.Field.lawful self.field s.0 in
     let n = self.len in
     let k = self.message_len in
@@ -49,7 +49,7 @@ pub returns-clause-sound : goal.returns-clause-sound
 returns-clause-sound g c =
     let self = c.args.self.now in
     let f : FieldModel = g.F.Field.model self.field in
-    let s = sound_of (g.F.Field.refusal self.field) f self.len self.message_len c.in_ok-check.ensures in
+    let s = sound_of (g.F.Field.refusal self.field) f self.len self.message_len c.in_ok-check.ensures.refused in
     let laws : FieldLaws f = g.met.F.Field.lawful self.field s.0 in
     let n = self.len in
     let k = self.message_len in
@@ -66,7 +66,7 @@ pub returns-clause-values : goal.returns-clause-values
 returns-clause-values g c =
     let self = c.args.self.now in
     let f : FieldModel = g.F.Field.model self.field in
-    let s = sound_of (g.F.Field.refusal self.field) f self.len self.message_len c.in_ok-check.ensures in
+    let s = sound_of (g.F.Field.refusal self.field) f self.len self.message_len c.in_ok-check.ensures.refused in
     let laws : FieldLaws f = g.met.F.Field.lawful self.field s.0 in
     let n = self.len in
     let k = self.message_len in
