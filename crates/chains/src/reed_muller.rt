@@ -79,27 +79,23 @@ impl ReedMuller {
         rest
     }
 
-    // How many of the sets from which the bit numbered s can be read vote for b. Each has the cells with the same ones
-    // outside s. A chain over the range would leave the bound of the shift open.
-    fn votes(&self, b: u32, s: usize, word: u16, blank: u16) -> usize
-        requires { s < 2 ^ self.now.r }
-        ensures { result ≡ votes b (column self.now.r s).checks (bits_of (2 ^ self.now.r) word) (bits_of (2 ^ self.now.r) blank) }
-    {
-        let mut votes = 0;
-        for a in 0..self.cells() {
-            if a & s == 0 {
-                votes += usize::from(speaks(b, subsets(s) << a, word, blank));
-            }
-        }
-        votes
-    }
-
-    // The bit numbered s, as most of its sets vote.
+    // The bit numbered s, as most of the sets vote from which it can be read: each has the cells with the same ones
+    // outside s. One pass counts both sides, since a pass for each would look at every set twice. A chain over the range
+    // would leave the bound of the shift open.
     fn vote(&self, s: usize, word: u16, blank: u16) -> u16
         requires { s < 2 ^ self.now.r }
         ensures { result ≡ elected (column self.now.r s).checks (bits_of (2 ^ self.now.r) word) (bits_of (2 ^ self.now.r) blank) }
     {
-        u16::from(self.votes(0, s, word, blank) < self.votes(1, s, word, blank))
+        let mut zeros = 0;
+        let mut ones = 0;
+        for a in 0..self.cells() {
+            if a & s == 0 {
+                let set = subsets(s) << a;
+                zeros += usize::from(speaks(0, set, word, blank));
+                ones += usize::from(speaks(1, set, word, blank));
+            }
+        }
+        u16::from(zeros < ones)
     }
 
     // Votes for the bits from place `from` on, each taken off before the next.
