@@ -12,6 +12,7 @@ use fields::field::Field;
 use fields::polynomial::Polynomial;
 use fields::worked::recipe_extension;
 use std::alloc::Global;
+use std::io;
 use tally::Tally;
 use words::fault::Fault;
 
@@ -29,13 +30,22 @@ fn compare<F: Field + Copy>(
     Comparison::new(decoder, rule.elements()).run(field?)
 }
 
-fn main(rt: HostRuntime) -> anyhow::Result<()> {
+// A line for a field, also where it is refused.
+fn show(rt: &HostRuntime, name: &str, width: u8, tally: Result<Tally, Stop>) -> io::Result<()> {
+    match tally {
+        Ok(tally) => println!(rt; "{name} {width}: {tally}"),
+        Err(Stop::Refused(_)) => println!(rt; "{name} {width}: refused"),
+        Err(Stop::OutOfMemory(error)) => Err(error.into()),
+    }
+}
+
+fn main(rt: HostRuntime) -> io::Result<()> {
     for width in 1..=8 {
-        let tally = compare(rt.alloc(), Polynomial::new(width), Rule::polynomial(width))?;
-        println!(rt; "polynomial {width}: {tally}")?;
+        let tally = compare(rt.alloc(), Polynomial::new(width), Rule::polynomial(width));
+        show(&rt, "polynomial", width, tally)?;
         if width % 2 == 0 {
-            let tally = compare(rt.alloc(), recipe_extension(width), Rule::extension(width))?;
-            println!(rt; "extension {width}: {tally}")?;
+            let tally = compare(rt.alloc(), recipe_extension(width), Rule::extension(width));
+            show(&rt, "extension", width, tally)?;
         }
     }
     Ok(())
