@@ -1,7 +1,4 @@
 // Arithmetic that shares nothing with the library's: products worked out bit by bit, for the polynomial fields and their extensions.
-ghost use Rattle.std.specs.Prelude.{◌≡◌, vec_len};
-
-use std::alloc::{AllocError, Global};
 
 /// A field that is to be compared: the polynomial field of a width, or its extension by y·y = y + c.
 #[derive(Clone, Copy)]
@@ -14,8 +11,7 @@ pub struct Rule {
 /// All products of a field, a row for each first operand.
 #[derive(Drop)]
 pub struct Products {
-    rows: Vec<[u8; 256]>,
-    ghost full: { vec_len rows ≡ 256 },
+    rows: [[u8; 256]; 256],
 }
 
 impl Rule {
@@ -103,12 +99,12 @@ impl Rule {
 }
 
 impl Products {
-    pub fn new(alloc: Global, rule: Rule) -> Result<Products, AllocError> {
-        let mut rows = vec![in alloc; [0; 256]; 256]?;
-        for (a, row) in rows.iter_mut().enumerate() {
-            *row = rule.row((a % 256) as u8);
+    pub fn new(rule: Rule) -> Products {
+        let mut rows = [[0; 256]; 256];
+        for (a, row) in (0..=255).zip(rows.iter_mut()) {
+            *row = rule.row(a);
         }
-        Ok(Products { rows })
+        Products { rows }
     }
 
     pub fn times(&self, a: u8, b: u8) -> u8 {

@@ -1,12 +1,20 @@
 // A decoder by elimination: a relation q(x) = y·e(x) with few unknowns shows which places are right.
 use crate::arithmetic::Products;
+use arrayvec::ArrayVec;
 use std::alloc::{AllocError, Global};
+use std::iter::{once, successors};
+
+/// The symbols of a word; a field has at most 256 elements, and a word no more places.
+pub type Word = ArrayVec<u8, 256>;
+
+/// An equation, whose unknowns are at most one more than a word's symbols.
+type Row = ArrayVec<u8, 257>;
 
 /// Linear equations, one to a row.
 #[derive(Drop)]
 struct Matrix {
     columns: usize,
-    rows: Vec<Vec<u8>>,
+    rows: ArrayVec<Row, 256>,
 }
 
 /// The cell of a row in a column.
@@ -17,21 +25,16 @@ fn cell(row: &[u8], column: usize) -> u8 {
 /// Writes first, first·x, first·x·x and so on to the end of a row.
 fn push_powers(
     products: &Products,
-    row: &mut Vec<u8>,
+    row: &mut Row,
     count: usize,
     x: u8,
     first: u8,
 ) -> Result<(), AllocError> {
-    let mut power = first;
-    for _ in 0..count {
-        row.push(power)?;
-        power = products.times(power, x);
-    }
-    Ok(())
+    row.extend(successors(Some(first), |power| Some(products.times(*power, x))).take(count))
 }
 
 /// Moves the first row that is not zero in a column to the front, if there is one, and parts it from the others.
-fn part_pivot(rows: &mut [Vec<u8>], column: usize) -> Option<(&mut Vec<u8>, &mut [Vec<u8>])> {
+fn part_pivot(rows: &mut [Row], column: usize) -> Option<(&mut Row, &mut [Row])> {
     let first = rows.iter().position(|row| cell(row, column) != 0)?;
     rows.swap(0, first);
     rows.split_first_mut()
@@ -55,10 +58,10 @@ fn clear(products: &Products, row: &mut [u8], pivot: &[u8], column: usize) {
 }
 
 impl Matrix {
-    fn new(alloc: Global, columns: usize) -> Matrix {
+    fn new(columns: usize) -> Matrix {
         Matrix {
             columns,
-            rows: Vec::new(alloc),
+            rows: ArrayVec::new(),
         }
     }
 
@@ -80,30 +83,29 @@ impl Matrix {
     }
 
     /// Coefficients, not all zero, of a sum of columns that is zero, if there is such a sum.
-    fn relation(
-        mut self,
-        alloc: Global,
-        products: &Products,
-    ) -> Result<Option<Vec<u8>>, AllocError> {
+    fn relation(&mut self, alloc: Global, products: &Products) -> Result<Option<Row>, AllocError> {
         let Some(dependent) = self.first_dependent(products) else {
             return Ok(None);
         };
         let above = self.rows.iter().take(dependent);
-        let mut coefficients: Vec<u8> = above.map(|row| cell(row, dependent)).collect(alloc)?;
-        coefficients.push(1)?;
-        Ok(Some(coefficients))
+        let coefficients = above.map(|row| cell(row, dependent)).chain(once(1));
+        Ok(Some(coefficients.collect(alloc)?))
     }
 }
 
 /// A symbol of a word, with its place.
-#[derive(Clone, Copy)]
+#[derive(Clone, Copy, Default)]
 pub struct Reading {
     pub place: u8,
     pub symbol: u8,
 }
 
 /// The symbols at the places that are not marked.
-pub fn readings(alloc: Global, word: &[u8], marks: &[u8]) -> Result<Vec<Reading>, AllocError> {
+pub fn readings(
+    alloc: Global,
+    word: &[u8],
+    marks: &[u8],
+) -> Result<ArrayVec<Reading, 256>, AllocError> {
     (0..=255)
         .zip(word.iter().copied().zip(marks))
         .filter(|(_, (_, mark))| **mark == 0)
@@ -111,7 +113,8 @@ pub fn readings(alloc: Global, word: &[u8], marks: &[u8]) -> Result<Vec<Reading>
         .collect(alloc)
 }
 
-/// Decodes words of a field by its products.
+/// Decodes words of a field by its products. Nothing is allocated: `collect` asks for an allocator, which an `ArrayVec` leaves
+/// unused, and an `AllocError` says that a word has more than 256 symbols.
 #[derive(Drop)]
 pub struct Decoder<'a> {
     pub alloc: Global,
@@ -128,21 +131,18 @@ impl Decoder<'_> {
     }
 
     /// The coefficients of a polynomial e of t + 1 coefficients that vanishes at every wrong place, if at most t of the readings of a
-    /// word for k symbols are wrong. If more are, there may be none.
-    fn locate(
-        &self,
-        k: usize,
-        t: usize,
-        readings: &[Reading],
-    ) -> Result<Option<Vec<u8>>, AllocError> {
+    /// word for k symbols are wrong. If more are, there may be none. (Not inlined, so that its matrix has left the stack when that of
+    /// `interpolate` comes.)
+    #[inline(never)]
+    fn locate(&self, k: usize, t: usize, readings: &[Reading]) -> Result<Option<Row>, AllocError> {
         let ahead = t.saturating_add(1);
         let behind = k.saturating_add(t);
-        let mut matrix = Matrix::new(self.alloc, ahead.saturating_add(behind));
+        let mut matrix = Matrix::new(ahead.saturating_add(behind));
         for Reading { place, symbol } in readings {
-            let mut row = Vec::with_capacity(self.alloc, matrix.columns)?;
+            let mut row = Row::new();
             push_powers(self.products, &mut row, ahead, *place, *symbol)?;
             push_powers(self.products, &mut row, behind, *place, 1)?;
-            matrix.rows.push(row)?;
+            matrix.rows.extend(once(row))?;
         }
         let Some(mut coefficients) = matrix.relation(self.alloc, self.products)? else {
             return Ok(None);
@@ -157,16 +157,16 @@ impl Decoder<'_> {
         k: usize,
         n: usize,
         readings: &[Reading],
-    ) -> Result<Option<Vec<u8>>, AllocError> {
+    ) -> Result<Option<Word>, AllocError> {
         let Some(first) = readings.get(..k) else {
             return Ok(None);
         };
-        let mut matrix = Matrix::new(self.alloc, k.saturating_add(1));
+        let mut matrix = Matrix::new(k.saturating_add(1));
         for Reading { place, symbol } in first {
-            let mut row = Vec::with_capacity(self.alloc, matrix.columns)?;
+            let mut row = Row::new();
             push_powers(self.products, &mut row, k, *place, 1)?;
-            row.push(*symbol)?;
-            matrix.rows.push(row)?;
+            row.extend(once(*symbol))?;
+            matrix.rows.extend(once(row))?;
         }
         let Some(mut coefficients) = matrix.relation(self.alloc, self.products)? else {
             return Ok(None);
@@ -183,11 +183,11 @@ impl Decoder<'_> {
         t: usize,
         n: usize,
         all: &[Reading],
-    ) -> Result<Option<Vec<u8>>, AllocError> {
+    ) -> Result<Option<Word>, AllocError> {
         let Some(wrong) = self.locate(k, t, all)? else {
             return Ok(None);
         };
-        let right: Vec<Reading> = all
+        let right: ArrayVec<Reading, 256> = all
             .iter()
             .copied()
             .filter(|reading| self.value(&wrong, reading.place) != 0)
@@ -201,7 +201,7 @@ impl Decoder<'_> {
         k: usize,
         word: &[u8],
         marks: &[u8],
-    ) -> Result<Option<(usize, Vec<u8>)>, AllocError> {
+    ) -> Result<Option<(usize, Word)>, AllocError> {
         let spare = word.len().saturating_sub(k);
         let blanks = marks.iter().filter(|m| **m != 0).count();
         if blanks > spare {

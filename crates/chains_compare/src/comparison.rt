@@ -4,12 +4,17 @@ ghost use Rattle.std.specs.Prelude.{◌≤◌};
 use crate::failure::Failure;
 use crate::random::Random;
 use crate::tally::{Outcome, Tally};
+use arrayvec::ArrayVec;
 use chains::chain::{Chain, Estimate};
 use std::alloc::Global;
+use std::iter::repeat_n;
 use words::fault::{Fault, Layer};
 use words::harms::harm;
 
 const READINGS: usize = 40;
+
+/// The most cells of a chain, and more than the stages of any.
+const CELLS: usize = 16;
 
 /// A chain at a stage, with how many labels each of its stages has, and the room for a row, for a reading and for a
 /// word that is tried.
@@ -18,31 +23,31 @@ pub(crate) struct Comparison<'a, H: Chain> {
     chain: &'a H,
     stage: usize,
     ghost numbered: { 1 ≤ stage },
-    sizes: Vec<usize>,
-    row: Vec<u8>,
-    cells: Vec<u8>,
-    marks: Vec<u8>,
-    word: Vec<u8>,
+    sizes: ArrayVec<usize, CELLS>,
+    row: ArrayVec<u8, CELLS>,
+    cells: ArrayVec<u8, CELLS>,
+    marks: ArrayVec<u8, CELLS>,
+    word: ArrayVec<u8, CELLS>,
 }
 
 impl<'a, H: Chain> Comparison<'a, H> {
-    /// A chain at one of its stages.
-    pub(crate) fn new(heap: Global, chain: &'a H, stage: usize) -> Result<Self, Failure>
+    /// A chain at one of its stages. Nothing is allocated: `collect` asks for an allocator, which an `ArrayVec` leaves unused.
+    pub(crate) fn new(alloc: Global, chain: &'a H, stage: usize) -> Result<Self, Failure>
         requires { 1 ≤ stage }
     {
         let breadth = chain.breadth();
         // No label is wider than 8 bits.
         let sizes = (1..=chain.stages())
             .map(|stage| -> Result<usize, Failure> { Ok(1 << chain.width(stage)?.min(8)) })
-            .try_collect(heap)?;
+            .try_collect(alloc)?;
         Ok(Comparison {
             chain,
             stage,
             sizes,
-            row: vec![in heap; 0; chain.stages()]?,
-            cells: vec![in heap; 0; breadth]?,
-            marks: vec![in heap; 0; breadth]?,
-            word: vec![in heap; 0; breadth]?,
+            row: repeat_n(0, chain.stages()).collect(alloc)?,
+            cells: repeat_n(0, breadth).collect(alloc)?,
+            marks: repeat_n(0, breadth).collect(alloc)?,
+            word: repeat_n(0, breadth).collect(alloc)?,
         })
     }
 

@@ -4,11 +4,11 @@ use std::alloc::AllocError;
 use thiserror::Error;
 use words::fault::Fault;
 
-/// A chain's refusal, or no memory. (The two comparisons share no library, and one for these lines would be no plainer.)
+/// A chain's refusal, or more cells than there is room for. (The two comparisons share no library, and one for these lines would be no plainer.)
 #[derive(Debug, Drop, Error)]
 pub(crate) enum Failure {
     #[error("{0}")]
     Refused(#[from] Fault),
-    #[error("out of memory")]
-    OutOfMemory(#[from] AllocError),
+    #[error("no room")]
+    NoRoom(#[from] AllocError),
 }

@@ -19,10 +19,10 @@ use std::io;
 use words::fault::Fault;
 
 // Compares a chain at a stage.
-fn compare<H: Chain>(heap: Global, chain: &H, stage: usize, seed: u64) -> Result<Tally, Failure>
+fn compare<H: Chain>(alloc: Global, chain: &H, stage: usize, seed: u64) -> Result<Tally, Failure>
     requires { 1 ≤ stage }
 {
-    Comparison::new(heap, chain, stage)?.run(seed)
+    Comparison::new(alloc, chain, stage)?.run(seed)
 }
 
 // Compares the stages of the chain that a number makes, a line to each, also where it is refused.
@@ -42,7 +42,7 @@ fn show<H: Chain + Drop, F: Fn(u8) -> Result<H, Fault>>(
         match compare(rt.alloc(), &chain, stage, seed) {
             Ok(tally) => println!(rt; "{name} {number}, stage {stage}: {tally}")?,
             Err(Failure::Refused(_)) => println!(rt; "{name} {number}, stage {stage}: refused")?,
-            Err(Failure::OutOfMemory(error)) => return Err(error.into()),
+            Err(Failure::NoRoom(error)) => return Err(error.into()),
         }
     }
     Ok(())

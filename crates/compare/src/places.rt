@@ -4,7 +4,7 @@ use crate::inner::Chain;
 use crate::outer::Outer;
 use crate::plan::{Plan, bits_of};
 use by_elimination::arithmetic::Products;
-use by_elimination::decoder::Decoder;
+use by_elimination::decoder::{Decoder, Word};
 use std::alloc::{AllocError, Global};
 
 /// The most message bits of a stage of which all codewords are looked at.
@@ -40,7 +40,7 @@ enum Codewords {
     /// All of them.
     Few(Vec<Vec<u8>>),
     /// Those of a Reed-Solomon code, by its field's products.
-    Many(Products),
+    Many(Box<Products>),
 }
 
 /// A stage: its rows and their distance, the cells that each label adds, and its code.
@@ -129,7 +129,8 @@ impl Codewords {
         if code.bits() > FEW_BITS
             && let Some(field) = code.field()
         {
-            return Ok(Codewords::Many(Products::new(heap, field.rule())?));
+            let products = Box::new(heap, Products::new(field.rule())).map_err(AllocError::from)?;
+            return Ok(Codewords::Many(products));
         }
         let mut words = Vec::new(heap);
         for number in 0..1 << code.bits().min(FEW_BITS) {
@@ -207,7 +208,7 @@ impl Stage {
         estimates: &[Option<Estimate>],
         labels: &[u8],
         threshold: usize,
-    ) -> Result<Option<Vec<u8>>, AllocError> {
+    ) -> Result<Option<Word>, AllocError> {
         let marks: Vec<u8> = estimates
             .iter()
             .map(|estimate| u8::from(estimate.is_none_or(|e| e.harm >= threshold)))
@@ -234,8 +235,8 @@ impl Stage {
     ) -> Result<Option<Vec<u8>>, AllocError> {
         for threshold in 1..self.inner.saturating_add(1) {
             let found = self.try_threshold(heap, products, estimates, labels, threshold)?;
-            if found.is_some() {
-                return Ok(found);
+            if let Some(word) = found {
+                return Ok(Some(Vec::from_slice(heap, word.as_slice())?));
             }
         }
         Ok(None)

@@ -1,11 +1,12 @@
 // The calls of a code beside the decoder's answers.
 use crate::tally::Tally;
 use crate::trials::{Draw, Trial};
-use by_elimination::decoder::{Decoder, readings};
+use by_elimination::decoder::{Decoder, Word, readings};
 use codes::code::Code;
 use fields::field::Field;
 use reed_solomon::code::ReedSolomon;
 use std::alloc::AllocError;
+use std::iter::repeat_n;
 use thiserror::Error;
 use words::fault::{Fault, Kind};
 
@@ -16,8 +17,8 @@ const TURNS: usize = 400;
 pub enum Stop {
     #[error("{0}")]
     Refused(#[from] Fault),
-    #[error("out of memory")]
-    OutOfMemory(#[from] AllocError),
+    #[error("no room")]
+    NoRoom(#[from] AllocError),
 }
 
 /// An answer, absent where the refusal is that there is no codeword; any other refusal passes up.
@@ -52,9 +53,9 @@ impl<'a> Comparison<'a> {
 
 impl Comparison<'_> {
     /// The word that the first k symbols of another determine.
-    fn sought(&self, k: usize, n: usize, symbols: &[u8]) -> Result<Option<Vec<u8>>, AllocError> {
+    fn sought(&self, k: usize, n: usize, symbols: &[u8]) -> Result<Option<Word>, AllocError> {
         let alloc = self.decoder.alloc;
-        let marks = vec![in alloc; 0; symbols.len()]?;
+        let marks: Word = repeat_n(0, symbols.len()).collect(alloc)?;
         let all = readings(alloc, symbols, &marks)?;
         self.decoder.interpolate(k, n, &all)
     }
@@ -65,10 +66,10 @@ impl Comparison<'_> {
         code: &C,
         n: usize,
         message: &[u8],
-    ) -> Result<Vec<u8>, Stop> {
+    ) -> Result<Word, Stop> {
         let alloc = self.decoder.alloc;
-        let mut word = vec![in alloc; 0; n]?;
-        let mut again = vec![in alloc; 0; message.len()]?;
+        let mut word: Word = repeat_n(0, n).collect(alloc)?;
+        let mut again: Word = repeat_n(0, message.len()).collect(alloc)?;
         code.encode(message, &mut word)?;
         code.message_of(&word, &mut again)?;
         let sought = self.sought(message.len(), n, message)?;
@@ -84,7 +85,7 @@ impl Comparison<'_> {
         message: &[u8],
         word: &[u8],
     ) -> Result<(), Stop> {
-        let mut again = Vec::from_slice(self.decoder.alloc, message)?;
+        let mut again: Word = message.iter().copied().collect(self.decoder.alloc)?;
         let sought = self.sought(message.len(), word.len(), word)?;
         let recognized = sought.is_some_and(|sought| sought.as_slice() == word);
         let answer = answered(code.message_of(word, &mut again))?;
@@ -104,7 +105,7 @@ impl Comparison<'_> {
     ) -> Result<(), Stop> {
         let (harm, after) = match self.decoder.decode(k, word, marks)? {
             Some((harm, codeword)) => (Some(harm), codeword),
-            None => (None, Vec::from_slice(self.decoder.alloc, word)?),
+            None => (None, word.iter().copied().collect(self.decoder.alloc)?),
         };
         let answer = answered(code.correct(word, marks))?;
         self.tally.hold(answer == harm);
@@ -118,7 +119,7 @@ impl Comparison<'_> {
         let alloc = self.decoder.alloc;
         let message = self.draw.message(alloc, self.size, trial.k)?;
         let mut word = self.compare_encode(code, trial.n, &message)?;
-        let mut marks = vec![in alloc; 0; trial.n]?;
+        let mut marks: Word = repeat_n(0, trial.n).collect(alloc)?;
         self.draw.spoil(self.size, trial, &mut word, &mut marks);
         self.compare_message_of(code, &message, &word)?;
         self.compare_correct(code, trial.k, &mut word, &marks)

@@ -22,7 +22,7 @@ fn compare<F: Field + Copy>(
     field: Result<F, Fault>,
     rule: Rule,
 ) -> Result<Tally, Stop> {
-    let products = Products::new(alloc, rule)?;
+    let products = Products::new(rule);
     let decoder = Decoder {
         alloc,
         products: &products,
@@ -35,7 +35,7 @@ fn show(rt: &HostRuntime, name: &str, width: u8, tally: Result<Tally, Stop>) -> 
     match tally {
         Ok(tally) => println!(rt; "{name} {width}: {tally}"),
         Err(Stop::Refused(_)) => println!(rt; "{name} {width}: refused"),
-        Err(Stop::OutOfMemory(error)) => Err(error.into()),
+        Err(Stop::NoRoom(error)) => Err(error.into()),
     }
 }
 

@@ -1,4 +1,5 @@
 // Words made at random: lengths, messages and damage, from a seed.
+use by_elimination::decoder::Word;
 use std::alloc::{AllocError, Global};
 
 /// Numbers that look random.
@@ -88,7 +89,7 @@ impl Draw {
     }
 
     /// A message of k symbols at random.
-    pub fn message(&mut self, alloc: Global, size: usize, k: usize) -> Result<Vec<u8>, AllocError> {
+    pub fn message(&mut self, alloc: Global, size: usize, k: usize) -> Result<Word, AllocError> {
         (0..k).map(|_| self.symbol(size)).collect(alloc)
     }
 
