@@ -4,17 +4,23 @@ use arrayvec::ArrayVec;
 use std::alloc::{AllocError, Global};
 use std::iter::{once, successors};
 
-/// The symbols of a word; a field has at most 256 elements, and a word no more places.
-pub type Word = ArrayVec<u8, 256>;
+/// How many places there are, since a place is a byte. Symbols behind them are not looked at, but they and their marks count.
+const PLACES: usize = 256;
 
-/// An equation, whose unknowns are at most one more than a word's symbols.
-type Row = ArrayVec<u8, 257>;
+/// The most unknowns that matter: of at most 256 equations, the first unknown that depends on those before it is one of these.
+const UNKNOWNS: usize = 257;
+
+/// The symbols of a word at each of its places.
+pub type Word = ArrayVec<u8, PLACES>;
+
+/// An equation.
+type Row = ArrayVec<u8, UNKNOWNS>;
 
 /// Linear equations, one to a row.
 #[derive(Drop)]
 struct Matrix {
     columns: usize,
-    rows: ArrayVec<Row, 256>,
+    rows: ArrayVec<Row, PLACES>,
 }
 
 /// The cell of a row in a column.
@@ -113,8 +119,8 @@ pub fn readings(
         .collect(alloc)
 }
 
-/// Decodes words of a field by its products. Nothing is allocated: `collect` asks for an allocator, which an `ArrayVec` leaves
-/// unused, and an `AllocError` says that a word has more than 256 symbols.
+/// Decodes words of a field by its products, of any length. Nothing is allocated: `collect` asks for an allocator, which an
+/// `ArrayVec` leaves unused, and none of the vectors is given more than it has room for.
 #[derive(Drop)]
 pub struct Decoder<'a> {
     pub alloc: Global,
@@ -135,9 +141,9 @@ impl Decoder<'_> {
     /// `interpolate` comes.)
     #[inline(never)]
     fn locate(&self, k: usize, t: usize, readings: &[Reading]) -> Result<Option<Row>, AllocError> {
-        let ahead = t.saturating_add(1);
-        let behind = k.saturating_add(t);
-        let mut matrix = Matrix::new(ahead.saturating_add(behind));
+        let ahead = t.saturating_add(1).min(UNKNOWNS);
+        let behind = k.saturating_add(t).min(UNKNOWNS - ahead);
+        let mut matrix = Matrix::new(ahead + behind);
         for Reading { place, symbol } in readings {
             let mut row = Row::new();
             push_powers(self.products, &mut row, ahead, *place, *symbol)?;
@@ -151,18 +157,11 @@ impl Decoder<'_> {
         Ok(Some(coefficients))
     }
 
-    /// The first n values of the polynomial of k coefficients through the first k of some readings, if there are so many.
-    pub fn interpolate(
-        &self,
-        k: usize,
-        n: usize,
-        readings: &[Reading],
-    ) -> Result<Option<Word>, AllocError> {
-        let Some(first) = readings.get(..k) else {
-            return Ok(None);
-        };
+    /// The first n values of the polynomial of as many coefficients as there are readings that goes through them.
+    fn through(&self, n: usize, readings: &[Reading]) -> Result<Option<Word>, AllocError> {
+        let k = readings.len();
         let mut matrix = Matrix::new(k.saturating_add(1));
-        for Reading { place, symbol } in first {
+        for Reading { place, symbol } in readings {
             let mut row = Row::new();
             push_powers(self.products, &mut row, k, *place, 1)?;
             row.extend(once(*symbol))?;
@@ -174,6 +173,42 @@ impl Decoder<'_> {
         coefficients.truncate(k);
         let values = (0..=255).take(n).map(|x| self.value(&coefficients, x));
         Ok(Some(values.collect(self.alloc)?))
+    }
+
+    /// The first n values of the product of all x + p, where p is a place of some readings, reduced where it is no element.
+    #[inline(never)]
+    fn vanishing(&self, n: usize, readings: &[Reading]) -> Result<Option<Word>, AllocError> {
+        let places: Word = (0..=255)
+            .filter(|place| {
+                readings
+                    .iter()
+                    .any(|reading| self.products.times(1, reading.place) == *place)
+            })
+            .collect(self.alloc)?;
+        let values = (0..=255).take(n).map(|x| {
+            places
+                .iter()
+                .fold(1, |all, place| self.products.times(all, x ^ *place))
+        });
+        Ok(Some(values.collect(self.alloc)?))
+    }
+
+    /// The first n values, of 256 at most, of the polynomial of k coefficients through the first k of some readings, if there are so
+    /// many. More than 256 share places: so few different places make one of the powers depend on those below it, before a symbol is
+    /// come to, and what is found is the polynomial that vanishes at each.
+    pub fn interpolate(
+        &self,
+        k: usize,
+        n: usize,
+        readings: &[Reading],
+    ) -> Result<Option<Word>, AllocError> {
+        let Some(first) = readings.get(..k) else {
+            return Ok(None);
+        };
+        if k > PLACES {
+            return self.vanishing(n, first);
+        }
+        self.through(n, first)
     }
 
     /// The values through places that are right, if at most t readable places are wrong.

@@ -3,3 +3,5 @@
 
 pub mod arithmetic;
 pub mod decoder;
+#[cfg(test)]
+mod tests;
