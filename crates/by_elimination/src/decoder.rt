@@ -137,8 +137,8 @@ impl Decoder<'_> {
     }
 
     /// The coefficients of a polynomial e of t + 1 coefficients that vanishes at every wrong place, if at most t of the readings of a
-    /// word for k symbols are wrong. If more are, there may be none. (Not inlined, so that its matrix has left the stack when that of
-    /// `interpolate` comes.)
+    /// word for k symbols are wrong. If more are, there may be none. (Not inlined, nor is `through`, so that its matrix has left the
+    /// stack when that of the other comes.)
     #[inline(never)]
     fn locate(&self, k: usize, t: usize, readings: &[Reading]) -> Result<Option<Row>, AllocError> {
         let ahead = t.saturating_add(1).min(UNKNOWNS);
@@ -158,6 +158,7 @@ impl Decoder<'_> {
     }
 
     /// The first n values of the polynomial of as many coefficients as there are readings that goes through them.
+    #[inline(never)]
     fn through(&self, n: usize, readings: &[Reading]) -> Result<Option<Word>, AllocError> {
         let k = readings.len();
         let mut matrix = Matrix::new(k.saturating_add(1));
@@ -175,7 +176,8 @@ impl Decoder<'_> {
         Ok(Some(values.collect(self.alloc)?))
     }
 
-    /// The first n values of the product of all x + p, where p is a place of some readings, reduced where it is no element.
+    /// The first n values of the product of all x + p, where p is a place of some readings, reduced where it is no element. (Not inlined,
+    /// since the programs never come to it.)
     #[inline(never)]
     fn vanishing(&self, n: usize, readings: &[Reading]) -> Result<Option<Word>, AllocError> {
         let places: Word = (0..=255)

@@ -99,3 +99,23 @@ fn one_reading_more_than_places(rt: HostRuntime) -> Result<(), Fail> {
     assert!(rt; decoder.interpolate(258, 4, &readings)?.is_none());
     Ok(())
 }
+
+// Over the field of four elements 4 is reduced to 3, so that all readings share the place 3, and x + 3 is 3, 2, 1, 0.
+#[test]
+fn places_that_are_no_elements(rt: HostRuntime) -> Result<(), Fail> {
+    let products = Products::new(Rule::polynomial(2));
+    let decoder = Decoder {
+        alloc: rt.alloc(),
+        products: &products,
+    };
+    let mut readings = [Reading {
+        place: 4,
+        symbol: 1,
+    }; 257];
+    readings[0].place = 3;
+    let Some(values) = decoder.interpolate(257, 4, &readings)? else {
+        return Err(Fail::new("a polynomial"));
+    };
+    assert!(rt; values.as_slice() == [3, 2, 1, 0].as_slice());
+    Ok(())
+}
